@@ -1,0 +1,89 @@
+-- `crc::modbus_check` meets its contract. The loop's invariant: the check of all bytes is the check that the register
+-- gives over the bytes not yet read, and the register has 16 bits. Assumes nothing.
+use mathlib.Core.Path.{_≡_, refl, sym, ap, _∙_, subst}
+use mathlib.Core.List.{List, []}
+use Prim.Native.Nat.{ℕ, _+_, _-_, _/_, _%_, _^_, _≤_, _<_}
+use native.Mathlib.Nat.{mod-lt}
+use native.Mathlib.Omega.{arith}
+use lib.Bits.{bitXor}
+use lib.Dec.{lit<}
+use lib.ListN.{length, getD, drop, drop-of-length-le}
+use borrow.Author.Needs.{needs}
+use Rattle.crc.specs.Check.{modbusBytes, modbusCheck}
+use Rattle.crc.proofs.Byte.{modbusTable, modbus-entry-lt, modbus-lt}
+use Rattle.crc.proofs.Turn.{modbus-turn}
+use Rattle.crc.proofs.modbus_check.Statement.{statement}
+use Rattle.crc.proofs.modbus_check.Tie as tie
+
+abbrev Inv-loop : tie.InvT-loop
+Inv-loop bytes table register₀ i₀ register i =
+    (i ≤ length bytes) × (register < 2 ^ 16) × (modbusBytes register (drop i bytes) ≡ modbusBytes 0xFFFF bytes)
+
+abbrev μ-loop : tie.MeasureT-loop
+μ-loop bytes table register₀ i₀ register i = length bytes - i
+
+loop-holds : tie.Need-loop-holds Inv-loop μ-loop
+loop-holds c = (omega arith, lit< tt, refl)
+
+shared-slice-read-at : tie.Need-shared-slice-read-at Inv-loop μ-loop
+shared-slice-read-at c = omega arith
+
+cast-at : tie.Need-cast-at Inv-loop μ-loop
+cast-at c = omega (arith, c .shared-slice-known .given (c .before .before .loop .i))
+
+cast-at-2 : tie.Need-cast-at-2 Inv-loop μ-loop
+cast-at-2 c = omega arith
+
+mul-register : tie.Need-mul-register Inv-loop μ-loop
+mul-register c = omega arith
+
+array-read-register : tie.Need-array-read-register Inv-loop μ-loop
+array-read-register c = omega arith
+
+cast-register : tie.Need-cast-register Inv-loop μ-loop
+cast-register c =
+    let k = bitXor (c .before .before .loop .register) (getD (c .before .before .before .args .bytes .now) (c .before .before .loop .i) 0) % 256 in
+    omega (arith, modbus-entry-lt k (omega arith))
+
+add-i : tie.Need-add-i Inv-loop μ-loop
+add-i c = omega arith
+
+loop-less : tie.Need-loop-less Inv-loop μ-loop
+loop-less c = omega arith
+
+loop-again : tie.Need-loop-again Inv-loop μ-loop
+loop-again c =
+    let bytes = c .before .before .before .args .bytes .now in
+    let i = c .before .before .loop .i in
+    let r = c .before .before .loop .register in
+    let hi : i < length bytes = c .before .loop-test .taken in
+    let hb : getD bytes i 0 < 256 = omega (arith, c .shared-slice-known .given i) in
+    let hr : r < 2 ^ 16 = c .before .before .loop .inv .1 in
+    (omega arith, modbus-lt r (getD bytes i 0) hr hb, sym (modbus-turn bytes i r hi hb hr) ∙ c .before .before .loop .inv .2)
+
+cast-result : tie.Need-cast-result Inv-loop μ-loop
+cast-result c = omega arith
+
+returns : tie.Need-returns Inv-loop μ-loop
+unfolding modbusBytes modbusCheck
+returns c =
+    sym (ap (modbusBytes (c .before .loop .register)) (drop-of-length-le (c .before .before .args .bytes .now) (c .loop-test .left))) ∙ c .before .loop .inv .2
+
+pub modbus-check-spec : {M : Type 1} → statement M
+modbus-check-spec =
+    tie.close
+    (tie.spec
+    Inv-loop
+    μ-loop
+    loop-holds
+    shared-slice-read-at
+    cast-at
+    cast-at-2
+    mul-register
+    array-read-register
+    cast-register
+    add-i
+    loop-less
+    loop-again
+    cast-result
+    returns)
