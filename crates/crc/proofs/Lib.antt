@@ -3,4 +3,7 @@ pub mod Xor
 pub mod Register
 pub mod Table
 pub mod Byte
+pub mod Escape
 pub mod Turn
+pub mod BitByBit
+pub mod Worked

@@ -40,23 +40,24 @@ from f (x ∷ xs) i t (suc k) h =
 abbrev right-entry : Direction → ℕ → ℕ → ℕ → ℕ → Bool
 right-entry d w p k x = eqb x (steps d w p 8 (placed d w 8 k))
 
--- the one test: every entry of the table
-abbrev pub IsTable : Direction → ℕ → ℕ → List ℕ → Type 0
-IsTable d w p table = T (every (right-entry d w p) 0 table)
+-- a table of eight steps: the one test, over all of its 256 entries
+pub record IsTable (d : Direction) (w p : ℕ) (table : List ℕ) : Type 0 where
+  pub size : length table ≡ 256
+  pub holds : T (every (right-entry d w p) 0 table)
 
 module _ (d : Direction) (w p : ℕ) (table : List ℕ) (t : IsTable d w p table) where
-  entry : (k : ℕ) → k < length table → getD table k 0 ≡ steps d w p 8 (placed d w 8 k)
+  entry : (k : ℕ) → k < 256 → getD table k 0 ≡ steps d w p 8 (placed d w 8 k)
   entry k within =
       eqb→eq (getD table k 0) (steps d w p 8 (placed d w 8 k))
-      (subst (λ (m : ℕ). T (right-entry d w p m (getD table k 0))) (zero-add k) (from (right-entry d w p) table 0 t k within))
+      (subst (λ (m : ℕ). T (right-entry d w p m (getD table k 0))) (zero-add k)
+      (from (right-entry d w p) table 0 (t .holds) k (subst (λ (n : ℕ). k < n) (sym (t .size)) within)))
 
   module _ (hp : p < 2 ^ w) (hw : 8 ≤ w) where
     -- an entry has w bits
-    pub entry-lt : (k : ℕ) → k < length table → k < 256 → getD table k 0 < 2 ^ w
-    entry-lt k within hk =
-        subst (λ (x : ℕ). x < 2 ^ w) (sym (entry k within)) (steps-lt d w p hp 8 (placed d w 8 k) (placed-lt d w 8 k hw hk))
+    pub entry-lt : (k : ℕ) → k < 256 → getD table k 0 < 2 ^ w
+    entry-lt k hk = subst (λ (x : ℕ). x < 2 ^ w) (sym (entry k hk)) (steps-lt d w p hp 8 (placed d w 8 k) (placed-lt d w 8 k hw hk))
 
     -- the law: eight steps of a whole register are one lookup, added to what only moves
-    pub by-table : (r : ℕ) → r < 2 ^ w → outgoing d w 8 r < length table
+    pub by-table : (r : ℕ) → r < 2 ^ w → outgoing d w 8 r < 256
         → steps d w p 8 r ≡ bitXor (carried d w 8 r) (getD table (outgoing d w 8 r) 0)
     by-table r hr within = steps-split d w p 8 r hp hw hr ∙ ap (bitXor (carried d w 8 r)) (sym (entry (outgoing d w 8 r) within))

@@ -1,5 +1,6 @@
 -- What a call that writes gives, and what the lent output holds afterwards.
 -- Assumes nothing.
+use mathlib.Core.Path.{_≡_}
 use Prim.Native.Nat.{ℕ}
 use mathlib.Core.List.{List, [], _∷_, _++_}
 use lib.Dec.{leb}
@@ -19,6 +20,11 @@ pub data Output : Type 0 where
   bytes : List ℕ → Output
   refused : Refusal → Output
 
+-- the bytes; of a refusal, none
+abbrev pub content : Output → List ℕ
+content (bytes bs) = bs
+content (refused why) = []
+
 -- number 1, "by exact length": bytes that exceed the room are not written
 abbrev pub fitting : ℕ → Output → Output
 fitting room (bytes bs) = pick (leb (length bs) room) (bytes bs) (refused (at-place outputShort 0))
@@ -33,3 +39,8 @@ answer (refused why) = Refused why
 abbrev pub left : Output → List ℕ → List ℕ
 left (bytes bs) old = starting bs old
 left (refused why) old = old
+
+-- what a writer did: its result r, and the lent output, which held old and now holds new
+pub record Wrote (out : Output) (r : Written) (old new : List ℕ) : Type 0 where
+  pub result : r ≡ answer out
+  pub output : new ≡ left out old

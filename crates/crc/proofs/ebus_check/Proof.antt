@@ -7,22 +7,26 @@ use lib.Bits.{bitXor}
 use lib.Dec.{lit<}
 use lib.ListN.{length, getD, drop, drop-of-length-le}
 use mathlib.Core.Logic.{_⊎_, ⊎-elim}
-use Rattle.crc.specs.Check.{ebusBytes, ebusCheck}
+use Rattle.crc.specs.Register.{left, step, steps}
+use Rattle.crc.specs.Check.{ebusPolynomial, ebusBytes, ebusCheck}
 use Rattle.crc.specs.Escape.{esc, syn, expanded}
-use Rattle.crc.proofs.Byte.{ebusTable, ebus-lt}
-use Rattle.crc.proofs.Turn.{ebus-turn-plain, ebus-turn-special, special}
+use Rattle.crc.proofs.Table.{IsTable}
+use Rattle.crc.proofs.Byte.{ebus-lt}
+use Rattle.crc.proofs.Turn.{ebus-turn-plain, ebus-turn-special, ebus-special-lt}
+use Rattle.crc.proofs.Escape.{special}
 use Rattle.crc.proofs.ebus_check.Statement.{statement}
 use Rattle.crc.proofs.ebus_check.Tie as tie
 
 abbrev Inv-loop : tie.InvT-loop
 Inv-loop logical table register₀ i₀ register i =
-    (i ≤ length logical) × (register < 256) × (ebusBytes register (expanded (drop i logical)) ≡ ebusBytes 0x00 (expanded logical))
+    IsTable left 8 ebusPolynomial table × (i ≤ length logical) × (register < 256) × (ebusBytes register (expanded (drop i logical)) ≡ ebusBytes 0x00 (expanded logical))
 
 abbrev μ-loop : tie.MeasureT-loop
 μ-loop logical table register₀ i₀ register i = length logical - i
 
 loop-holds : tie.Need-loop-holds Inv-loop μ-loop
-loop-holds c = (omega arith, lit< tt, refl)
+unfolding step steps
+loop-holds c = (record { size = refl; holds = tt }, omega arith, lit< tt, refl)
 
 shared-slice-read-byte : tie.Need-shared-slice-read-byte Inv-loop μ-loop
 shared-slice-read-byte c = omega arith
@@ -38,11 +42,13 @@ array-read-second c = omega arith
 
 cast-second : tie.Need-cast-second Inv-loop μ-loop
 cast-second c =
-    let r = c .before .before .before .before .loop .register in
-    omega (arith, ebus-lt r esc (c .before .before .before .before .loop .inv .1) (lit< tt))
+    let l = c .before .before .before .before .loop in
+    omega (arith, ebus-lt (l .inv .0) (l .register) esc (l .inv .2) (lit< tt))
 
 array-read-register : tie.Need-array-read-register Inv-loop μ-loop
-array-read-register c = ebus-lt (c .before .before .before .before .loop .register) esc (c .before .before .before .before .loop .inv .1) (lit< tt)
+array-read-register c =
+    let l = c .before .before .before .before .loop in
+    omega (arith, ebus-lt (l .inv .0) (l .register) esc (l .inv .2) (lit< tt))
 
 loop-less : tie.Need-loop-less Inv-loop μ-loop
 loop-less c = omega arith
@@ -54,11 +60,12 @@ loop-again c =
     let r = c .before .before .before .before .loop .register in
     let b = getD logical i 0 in
     let hi : i < length logical = c .before .before .before .loop-test .taken in
-    let hr : r < 256 = c .before .before .before .before .loop .inv .1 in
+    let hr : r < 256 = c .before .before .before .before .loop .inv .2 in
     let low : esc ≤ b = c .before .if1 .left in
     let high : b ≤ syn = omega (arith, c .if2 .taken) in
-    let first : bitXor (getD ebusTable r 0) esc < 256 = ebus-lt r esc hr (lit< tt) in
-    (omega arith, ebus-lt (bitXor (getD ebusTable r 0) esc) (b - esc) first (omega arith), sym (ebus-turn-special logical i r hi hr (special b low high)) ∙ c .before .before .before .before .loop .inv .2)
+    let t = c .before .before .before .before .loop .inv .0 in
+    let which = special b low high in
+    (t, omega arith, ebus-special-lt t logical i r hi hr which, sym (ebus-turn-special t logical i r hi hr which) ∙ c .before .before .before .before .loop .inv .3)
 
 array-read-register-2 : tie.Need-array-read-register-2 Inv-loop μ-loop
 array-read-register-2 c = omega arith
@@ -74,15 +81,16 @@ loop-again-2 c =
     let hi : i < length logical = c .before .before .loop-test .taken in
     let b = getD logical i 0 in
     let hb : b < 256 = omega (arith, c .before .shared-slice-known .given i) in
-    let hr : r < 256 = c .before .before .before .loop .inv .1 in
+    let hr : r < 256 = c .before .before .before .loop .inv .2 in
     let no-esc : b ≡ esc → ⊥ = λ e. ⊎-elim (λ w. omega (arith, w .taken)) (λ w. omega (arith, w .1 .left)) (c .if1 .came) in
     let no-syn : b ≡ syn → ⊥ = λ e. ⊎-elim (λ w. omega (arith, w .taken)) (λ w. omega (arith, w .1 .left)) (c .if1 .came) in
-    (omega arith, ebus-lt r b hr hb, sym (ebus-turn-plain logical i r hi hr hb no-esc no-syn) ∙ c .before .before .before .loop .inv .2)
+    let t = c .before .before .before .loop .inv .0 in
+    (t, omega arith, ebus-lt t r b hr hb, sym (ebus-turn-plain t logical i r hi hr hb no-esc no-syn) ∙ c .before .before .before .loop .inv .3)
 
 returns : tie.Need-returns Inv-loop μ-loop
 unfolding ebusBytes expanded ebusCheck
 returns c =
-    sym (ap (λ l. ebusBytes (c .before .loop .register) (expanded l)) (drop-of-length-le (c .before .before .args .logical .now) (c .loop-test .left))) ∙ c .before .loop .inv .2
+    sym (ap (λ l. ebusBytes (c .before .loop .register) (expanded l)) (drop-of-length-le (c .before .before .args .logical .now) (c .loop-test .left))) ∙ c .before .loop .inv .3
 
 pub ebus-check-spec : {M : Type 1} → statement M
 ebus-check-spec =

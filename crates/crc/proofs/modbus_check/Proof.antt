@@ -9,21 +9,24 @@ use lib.Bits.{bitXor}
 use lib.Dec.{lit<}
 use lib.ListN.{length, getD, drop, drop-of-length-le}
 use borrow.Author.Needs.{needs}
-use Rattle.crc.specs.Check.{modbusBytes, modbusCheck}
-use Rattle.crc.proofs.Byte.{modbusTable, modbus-entry-lt, modbus-lt}
+use Rattle.crc.specs.Register.{right, step, steps}
+use Rattle.crc.specs.Check.{modbusPolynomial, modbusBytes, modbusCheck}
+use Rattle.crc.proofs.Table.{IsTable}
+use Rattle.crc.proofs.Byte.{modbus-entry-lt, modbus-lt}
 use Rattle.crc.proofs.Turn.{modbus-turn}
 use Rattle.crc.proofs.modbus_check.Statement.{statement}
 use Rattle.crc.proofs.modbus_check.Tie as tie
 
 abbrev Inv-loop : tie.InvT-loop
 Inv-loop bytes table register₀ i₀ register i =
-    (i ≤ length bytes) × (register < 2 ^ 16) × (modbusBytes register (drop i bytes) ≡ modbusBytes 0xFFFF bytes)
+    IsTable right 16 modbusPolynomial table × (i ≤ length bytes) × (register < 2 ^ 16) × (modbusBytes register (drop i bytes) ≡ modbusBytes 0xFFFF bytes)
 
 abbrev μ-loop : tie.MeasureT-loop
 μ-loop bytes table register₀ i₀ register i = length bytes - i
 
 loop-holds : tie.Need-loop-holds Inv-loop μ-loop
-loop-holds c = (omega arith, lit< tt, refl)
+unfolding step steps
+loop-holds c = (record { size = refl; holds = tt }, omega arith, lit< tt, refl)
 
 shared-slice-read-at : tie.Need-shared-slice-read-at Inv-loop μ-loop
 shared-slice-read-at c = omega arith
@@ -42,8 +45,10 @@ array-read-register c = omega arith
 
 cast-register : tie.Need-cast-register Inv-loop μ-loop
 cast-register c =
-    let k = bitXor (c .before .before .loop .register) (getD (c .before .before .before .args .bytes .now) (c .before .before .loop .i) 0) % 256 in
-    omega (arith, modbus-entry-lt k (omega arith))
+    let l = c .before .before .loop in
+    let b = getD (c .before .before .before .args .bytes .now) (l .i) 0 in
+    let hb : b < 256 = omega (arith, c .shared-slice-known .given (l .i)) in
+    omega (arith, modbus-entry-lt (l .inv .0) (l .register) b (l .inv .2) hb)
 
 add-i : tie.Need-add-i Inv-loop μ-loop
 add-i c = omega arith
@@ -58,8 +63,9 @@ loop-again c =
     let r = c .before .before .loop .register in
     let hi : i < length bytes = c .before .loop-test .taken in
     let hb : getD bytes i 0 < 256 = omega (arith, c .shared-slice-known .given i) in
-    let hr : r < 2 ^ 16 = c .before .before .loop .inv .1 in
-    (omega arith, modbus-lt r (getD bytes i 0) hr hb, sym (modbus-turn bytes i r hi hb hr) ∙ c .before .before .loop .inv .2)
+    let hr : r < 2 ^ 16 = c .before .before .loop .inv .2 in
+    let t = c .before .before .loop .inv .0 in
+    (t, omega arith, modbus-lt t r (getD bytes i 0) hr hb, sym (modbus-turn t bytes i r hi hb hr) ∙ c .before .before .loop .inv .3)
 
 cast-result : tie.Need-cast-result Inv-loop μ-loop
 cast-result c = omega arith
@@ -67,7 +73,7 @@ cast-result c = omega arith
 returns : tie.Need-returns Inv-loop μ-loop
 unfolding modbusBytes modbusCheck
 returns c =
-    sym (ap (modbusBytes (c .before .loop .register)) (drop-of-length-le (c .before .before .args .bytes .now) (c .loop-test .left))) ∙ c .before .loop .inv .2
+    sym (ap (modbusBytes (c .before .loop .register)) (drop-of-length-le (c .before .before .args .bytes .now) (c .loop-test .left))) ∙ c .before .loop .inv .3
 
 pub modbus-check-spec : {M : Type 1} → statement M
 modbus-check-spec =

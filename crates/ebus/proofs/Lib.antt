@@ -1,0 +1,2 @@
+-- Laws of eBUS that belong to no one function.
+pub mod Undo

@@ -1,0 +1,3 @@
+-- What document 01 says of eBUS, in its order.
+pub mod Logical
+pub mod Undo

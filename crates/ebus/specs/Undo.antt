@@ -1,0 +1,30 @@
+-- Undoing the escapes of a whole input: "undoing it gives 3, 4 or 5 as met, at their places".
+-- Assumes nothing.
+use Prim.Native.Nat.{ℕ, zero, suc}
+use mathlib.Core.List.{List, [], _∷_}
+use lib.Dec.{ltb}
+use lib.ListN.{length}
+use Rattle.refusal.specs.Choice.{pick}
+use Rattle.refusal.specs.Output.{Output, bytes, refused}
+use Rattle.ebus.specs.declared.escape.Logical.{Logical}
+use Rattle.ebus.specs.declared.escape.Logical.the-variants.{Byte, Refused}
+use Rattle.ebus.specs.Logical.{logicalAt}
+
+-- one byte more in front of what the rest gives
+abbrev pub before : ℕ → Output → Output
+before b (bytes bs) = bytes (b ∷ bs)
+before b (refused why) = refused why
+
+-- a logical byte, and then what the rest gives from the position behind it
+abbrev pub withRest : Logical → (ℕ → Output) → Output
+withRest (Byte b next) rest = before b (rest next)
+withRest (Refused why) rest = refused why
+
+-- from a position on, with at most n logical bytes to come
+unfoldable pub undoneFrom : List ℕ → ℕ → ℕ → Output
+undoneFrom raw zero at = bytes []
+undoneFrom raw (suc n) at = pick (ltb at (length raw)) (withRest (logicalAt raw at) (undoneFrom raw n)) (bytes [])
+
+-- the whole input: it has no more logical bytes than raw ones
+unfoldable pub undone : List ℕ → Output
+undone raw = undoneFrom raw (length raw) 0

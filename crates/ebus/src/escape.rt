@@ -1,0 +1,201 @@
+// Escapes on the wire: A9 goes out as A9 00 and AA as A9 01; a raw AA is always SYN.
+//
+// Document 01, "eBUS check byte and escapes". `logical_at` is the layer that knows escapes; what is
+// above it reads logical bytes and knows none.
+use refusal::ESCAPE_WRONG;
+use refusal::OUTPUT_SHORT;
+use refusal::RUN_ENDED;
+use refusal::Refusal;
+use refusal::SYN_EARLY;
+use refusal::Written;
+ghost use mathlib.Core.Path.{_≡_};
+ghost use Prim.Native.Nat.{_+_, _≤_};
+ghost use lib.ListN.{length};
+ghost use Rattle.crc.specs.Escape.{expanded};
+ghost use Rattle.refusal.specs.Number.{outputShort, at-place};
+ghost use Rattle.refusal.specs.Output.{bytes, content, fitting, answer, starting, Wrote};
+ghost use Rattle.ebus.specs.Logical.{endedAt, escapeAt, logicalAt};
+ghost use Rattle.ebus.specs.Undo.{undone};
+
+const ESC: u8 = 0xA9;
+
+const SYN: u8 = 0xAA;
+
+// A logical byte with the position behind it, or why there is none.
+pub enum Logical {
+    Byte(u8, usize),
+    Refused(Refusal),
+}
+
+// A run that ends where a byte was due.
+fn ended(run: &[u8]) -> Logical
+    ensures { λ r. ⌜ r ≡ endedAt (now (run .entry)) ⌝ }
+{
+    Logical::Refused(Refusal {
+        number: RUN_ENDED,
+        place: run.len(),
+    })
+}
+
+// The second half of an escape, at its own place.
+fn escape_at(run: &[u8], at: usize) -> Logical
+    ensures { λ r. ⌜ r ≡ escapeAt (now (run .entry)) at ⌝ }
+{
+    if run.len() <= at {
+        return ended(run);
+    }
+    match run[at] {
+        0x00 => Logical::Byte(ESC, at + 1),
+        0x01 => Logical::Byte(SYN, at + 1),
+        SYN => Logical::Refused(Refusal {
+            number: SYN_EARLY,
+            place: at,
+        }),
+        _ => Logical::Refused(Refusal {
+            number: ESCAPE_WRONG,
+            place: at,
+        }),
+    }
+}
+
+// The logical byte at a position of the run. A refusal has document 01's number and place: 3, 4 or
+// 5 as met.
+pub fn logical_at(run: &[u8], at: usize) -> Logical
+    ensures { λ r. ⌜ r ≡ logicalAt (now (run .entry)) at ⌝ }
+{
+    if run.len() <= at {
+        return ended(run);
+    }
+    match run[at] {
+        ESC => escape_at(run, at + 1),
+        SYN => Logical::Refused(Refusal {
+            number: SYN_EARLY,
+            place: at,
+        }),
+        byte => Logical::Byte(byte, at + 1),
+    }
+}
+
+// Number 1: a lent output is shorter than stated.
+fn too_short() -> Written
+    ensures { λ r. ⌜ r ≡ Written.Refused (at-place outputShort 0) ⌝ }
+{
+    Written::Refused(Refusal {
+        number: OUTPUT_SHORT,
+        place: 0,
+    })
+}
+
+// How many logical bytes the raw input has, or the first refusal that is met in it.
+fn undone_length(raw: &[u8]) -> Written
+    ensures { λ r. ⌜ r ≡ answer (undone (now (raw .entry))) ⌝ }
+{
+    let mut at = 0;
+    let mut n = 0;
+    while at < raw.len() {
+        let byte = logical_at(raw, at);
+        match byte {
+            Logical::Byte(_, next) => {
+                at = next;
+                n += 1;
+            }
+            Logical::Refused(why) => {
+                return Written::Refused(why);
+            }
+        }
+    }
+    Written::Length(n)
+}
+
+// Writes the logical bytes of a raw input that has no fault, where the output has room for them.
+fn undo_into(raw: &[u8], out: &mut [u8])
+    requires { ⌜ undone (now raw) ≡ bytes (content (undone (now raw))) ⌝ }
+    requires { ⌜ length (content (undone (now raw))) ≤ length (now out) ⌝ }
+    ensures { λ _. ⌜ now (out .exit) ≡ starting (content (undone (now (raw .entry)))) (now (out .entry)) ⌝ }
+{
+    let mut at = 0;
+    let mut n = 0;
+    while at < raw.len() {
+        let Logical::Byte(byte, next) = logical_at(raw, at) else {
+            return;
+        };
+        out[n] = byte;
+        n += 1;
+        at = next;
+    }
+}
+
+// Undoes the escapes of a raw input: 3, 4 or 5 as met, anywhere in the input, and only then 1 by
+// exact length. The output starts with the logical bytes and keeps the rest; on a refusal it is as
+// it was.
+pub fn undo(raw: &[u8], out: &mut [u8]) -> Written
+    ensures { λ r. ⌜ Wrote (fitting (length (now (out .entry))) (undone (now (raw .entry)))) r (now (out .entry)) (now (out .exit)) ⌝ }
+{
+    let counted = undone_length(raw);
+    let Written::Length(n) = counted else {
+        return counted;
+    };
+    if out.len() < n {
+        return too_short();
+    }
+    undo_into(raw, out);
+    Written::Length(n)
+}
+
+// How many raw bytes the logical bytes take on the wire.
+fn expanded_length(logical: &[u8]) -> usize
+    ensures { λ r. ⌜ r ≡ length (expanded (now (logical .entry))) ⌝ }
+{
+    let mut n = 0;
+    let mut i = 0;
+    while i < logical.len() {
+        let byte = logical[i];
+        i += 1;
+        match byte {
+            ESC | SYN => {
+                n += 2;
+            }
+            _ => {
+                n += 1;
+            }
+        }
+    }
+    n
+}
+
+// Writes the logical bytes as they go on the wire, where the output has room for them.
+fn expand_into(logical: &[u8], out: &mut [u8])
+    requires { ⌜ length (expanded (now logical)) ≤ length (now out) ⌝ }
+    ensures { λ _. ⌜ now (out .exit) ≡ starting (expanded (now (logical .entry))) (now (out .entry)) ⌝ }
+{
+    let mut n = 0;
+    let mut i = 0;
+    while i < logical.len() {
+        let byte = logical[i];
+        i += 1;
+        match byte {
+            ESC | SYN => {
+                out[n] = ESC;
+                out[n + 1] = byte - ESC;
+                n += 2;
+            }
+            _ => {
+                out[n] = byte;
+                n += 1;
+            }
+        }
+    }
+}
+
+// Writes the logical bytes as they go on the wire. Refuses only with 1, by exact length. The output
+// starts with the raw bytes and keeps the rest; on a refusal it is as it was.
+pub fn expand(logical: &[u8], out: &mut [u8]) -> Written
+    ensures { λ r. ⌜ Wrote (fitting (length (now (out .entry))) (bytes (expanded (now (logical .entry))))) r (now (out .entry)) (now (out .exit)) ⌝ }
+{
+    let n = expanded_length(logical);
+    if out.len() < n {
+        return too_short();
+    }
+    expand_into(logical, out);
+    Written::Length(n)
+}

@@ -1,0 +1,74 @@
+-- Laws on lists that the loops of every crate cite: what is left to read from a position, and a lent output that is
+-- filled from its start.
+-- Assumes nothing.
+use mathlib.Core.Path.{_≡_, sym, ap, ap₂, _∙_}
+use mathlib.Core.List.{List, [], _∷_, _++_}
+use Prim.Native.Nat.{ℕ, suc, _+_, _≤_, _<_}
+use native.Mathlib.Nat.{add-zero}
+use native.Mathlib.Numerals.{add-one}
+use native.Mathlib.Omega.{arith}
+use lib.ListN.{length, getD, take, drop, set, length-drop, length-append}
+use lib.Seq.{drop-cons, drop-drop, getD-drop, take-suc, take-length, append-snoc, set-at, length-take-le}
+use Rattle.refusal.specs.Output.{starting}
+
+-- ---- reading
+
+-- what is left from i is the element at i and what is left from i + 1
+pub drop-next : (l : List ℕ) (i : ℕ) → i < length l → drop i l ≡ getD l i 0 ∷ drop (i + 1) l
+drop-next l i h = drop-cons l i 0 h ∙ ap (λ (n : ℕ). getD l i 0 ∷ drop n l) (sym (add-one i))
+
+-- the other way round: where what is left begins with x, x stands there, and the rest is left behind it
+module _ (l : List ℕ) (i x : ℕ) (xs : List ℕ) (e : drop i l ≡ x ∷ xs) where
+  pub head-within : i < length l
+  head-within = omega (arith, length-drop i l, ap length e)
+
+  pub head-is : getD l i 0 ≡ x
+  head-is = ap (λ (n : ℕ). getD l n 0) (sym (add-zero i)) ∙ sym (getD-drop i l 0 0) ∙ ap (λ (s : List ℕ). getD s 0 0) e
+
+  pub rest-is : drop (i + 1) l ≡ xs
+  rest-is = sym (drop-drop 1 i l) ∙ ap (drop 1) e
+
+-- ---- writing
+
+module _ (bs old : List ℕ) where
+  starting-take : (n : ℕ) → n ≤ length bs → starting (take n bs) old ≡ take n bs ++ drop n old
+  starting-take n h = ap (λ (k : ℕ). take n bs ++ drop k old) (length-take-le n bs h)
+
+  -- an output that starts with the first n bytes takes byte n at n, and then starts with n + 1 of them
+  pub starting-more : (n : ℕ) → n < length bs → length bs ≤ length old
+      → set (starting (take n bs) old) n (getD bs n 0) ≡ starting (take (n + 1) bs) old
+  starting-more n h room =
+      ap (λ (l : List ℕ). set l n (getD bs n 0))
+        (starting-take n (omega arith) ∙ ap (λ (l : List ℕ). take n bs ++ l) (drop-cons old n 0 (omega arith)))
+      ∙ set-at (take n bs) (getD old n 0) (drop (suc n) old) (getD bs n 0) n (length-take-le n bs (omega arith))
+      ∙ sym (append-snoc (take n bs) (getD bs n 0) (drop (suc n) old))
+      ∙ ap (λ (l : List ℕ). l ++ drop (suc n) old) (sym (take-suc bs n 0 h))
+      ∙ sym (starting-take (suc n) h)
+      ∙ ap (λ (k : ℕ). starting (take k bs) old) (sym (add-one n))
+
+  -- an output that starts with all of them
+  pub starting-all : starting (take (length bs) bs) old ≡ starting bs old
+  starting-all = ap (λ (l : List ℕ). starting l old) (take-length bs)
+
+  -- what is filled from its start keeps its length
+  pub length-starting : length bs ≤ length old → length (starting bs old) ≡ length old
+  length-starting h = length-append bs (drop (length bs) old) ∙ omega (arith, length-drop (length bs) old)
+
+  pub length-starting-take : (n : ℕ) → n ≤ length bs → length bs ≤ length old → length (starting (take n bs) old) ≡ length old
+  length-starting-take n h room =
+      ap length (starting-take n h) ∙ length-append (take n bs) (drop n old)
+      ∙ omega (arith, length-take-le n bs h, length-drop n old)
+
+-- one store of a loop that fills an output with bs: x is due at n, so n is within the output, and the output then starts
+-- with n + 1 of the bytes
+module _ (bs old out : List ℕ) (n x : ℕ) (xs : List ℕ)
+    (room : length bs ≤ length old) (filled : out ≡ starting (take n bs) old) (due : drop n bs ≡ x ∷ xs) where
+  pub fill-within : n < length out
+  fill-within =
+      let h : n < length bs = head-within bs n x xs due in
+      omega (arith, ap length filled, length-starting-take bs old n (omega arith) room)
+
+  pub fill-next : set out n x ≡ starting (take (n + 1) bs) old
+  fill-next =
+      let h : n < length bs = head-within bs n x xs due in
+      ap₂ (λ (l : List ℕ) (b : ℕ). set l n b) filled (sym (head-is bs n x xs due)) ∙ starting-more bs old n h room

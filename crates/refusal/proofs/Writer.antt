@@ -1,0 +1,59 @@
+-- Laws for calls that write: from the length that a call worked out to the promise `Wrote`.
+-- Assumes nothing.
+use mathlib.Core.Path.{_≡_, refl, sym, ap, _∙_, subst}
+use mathlib.Core.List.{List}
+use Prim.Native.Nat.{ℕ, _≤_, _<_}
+use native.Mathlib.Omega.{arith}
+use lib.Dec.{leb}
+use lib.ListN.{length}
+use borrow.Author.Tests.{le-leb, lt-leb}
+use Rattle.refusal.specs.Choice.{pick}
+use Rattle.refusal.specs.Number.{outputShort, at-place}
+use Rattle.refusal.specs.Output.{Output, bytes, refused, content, fitting, answer, left, starting, Wrote}
+use Rattle.refusal.specs.declared.Refusal.{Refusal}
+use Rattle.refusal.specs.declared.Written.{Written}
+use Rattle.refusal.specs.declared.Written.the-variants.{Length, Refused}
+
+-- an output whose answer is a length is bytes of that length
+pub accepted : (o : Output) (n : ℕ) → answer o ≡ Length n → o ≡ bytes (content o)
+accepted (bytes bs) n e = refl
+accepted (refused why) n e = let z : _≡_ {A = ℕ} 0 1 = cc in let f : ⊥ = omega arith in absurd f
+
+pub accepted-length : (o : Output) (n : ℕ) → answer o ≡ Length n → length (content o) ≡ n
+accepted-length (bytes bs) n e = cc
+accepted-length (refused why) n e = let z : _≡_ {A = ℕ} 0 1 = cc in let f : ⊥ = omega arith in absurd f
+
+module _ (o : Output) (room : ℕ) (old : List ℕ) where
+  -- refused before its room was looked at
+  pub wrote-refused : (r : Written) (why : Refusal) → r ≡ answer o → r ≡ Refused why → Wrote (fitting room o) r old old
+  wrote-refused r why e refusal = by-cases o e
+    where
+      by-cases : (o : Output) → r ≡ answer o → Wrote (fitting room o) r old old
+      by-cases (bytes bs) e = let z : _≡_ {A = ℕ} 0 1 = cc in let f : ⊥ = omega arith in absurd f
+      by-cases (refused w) e = record { result = e; output = refl }
+
+  module _ (n : ℕ) (e : answer o ≡ Length n) where
+    fits-is : (short : room < n) → fitting room o ≡ refused (at-place outputShort 0)
+    fits-is short =
+        ap (fitting room) (accepted o n e)
+        ∙ ap (λ b. pick b (bytes (content o)) (refused (at-place outputShort 0))) (lt-leb (length (content o)) room (omega (arith, accepted-length o n e)))
+
+    -- number 1
+    pub wrote-short : (r : Written) → room < n → r ≡ Refused (at-place outputShort 0) → Wrote (fitting room o) r old old
+    wrote-short r short is-one =
+        record {
+          result = is-one ∙ ap answer (sym (fits-is short));
+          output = ap (λ (out : Output). left out old) (sym (fits-is short));
+        }
+
+    -- all of it
+    pub wrote-all : (new : List ℕ) → n ≤ room → new ≡ starting (content o) old → Wrote (fitting room o) (Length n) old new
+    wrote-all new enough is-new =
+        let fits : fitting room o ≡ o =
+          ap (fitting room) (accepted o n e)
+          ∙ ap (λ b. pick b (bytes (content o)) (refused (at-place outputShort 0))) (le-leb (length (content o)) room (omega (arith, accepted-length o n e)))
+          ∙ sym (accepted o n e) in
+        record {
+          result = sym (ap answer fits ∙ e);
+          output = is-new ∙ ap (λ (out : Output). left out old) (sym (accepted o n e) ∙ sym fits);
+        }
