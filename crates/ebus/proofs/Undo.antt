@@ -2,55 +2,77 @@
 -- Assumes nothing.
 use mathlib.Core.Path.{_≡_, refl, sym, ap, ap₂, _∙_, subst}
 use mathlib.Core.Bool.{Bool, true, false}
-use mathlib.Core.List.{List, [], _∷_}
+use mathlib.Core.List.{List, [], _∷_, _++_}
 use Prim.Native.Nat.{ℕ, zero, suc, _+_, _-_, _≤_, _<_}
 use native.Mathlib.Omega.{arith}
 use lib.Dec.{eqb, ltb}
 use lib.ListN.{length, getD, drop}
-use borrow.Author.Tests.{lt-ltb, le-ltb, ltb-true}
+use borrow.Author.Tests.{lt-ltb, le-ltb, ltb-true, eqb-true, eqb-false}
 use Rattle.refusal.specs.Choice.{pick}
 use Rattle.refusal.specs.Output.{Output, bytes, refused, content, answer}
 use Rattle.refusal.specs.declared.Refusal.{Refusal}
 use Rattle.refusal.specs.declared.Written.{Written}
 use Rattle.refusal.specs.declared.Written.the-variants.{Length, Refused as NotWritten}
 use Rattle.refusal.proofs.Cases.{pick-cases}
+use Rattle.refusal.proofs.Lists.{drop-next}
+use Rattle.crc.specs.Escape.{esc, syn, escaped}
+use Rattle.crc.proofs.Escape.{escaped-plain}
 use Rattle.ebus.specs.declared.escape.Logical.{Logical}
 use Rattle.ebus.specs.declared.escape.Logical.the-variants.{Byte, Refused}
 use Rattle.ebus.specs.Logical.{endedAt, escapeAt, logicalAt}
 use Rattle.ebus.specs.Undo.{before, withRest, undoneFrom, undone}
 
--- ---- a logical byte takes at least one raw byte, and none behind the end
+-- ---- what a logical byte says of the raw bytes: it takes at least one, none behind the end, and stands there escaped
 
-abbrev pub Ahead : ℕ → ℕ → Logical → Type 0
-Ahead at end (Byte b next) = (at < next) × (next ≤ end)
-Ahead at end (Refused why) = Unit {0}
+abbrev pub Stands : List ℕ → ℕ → Logical → Type 0
+Stands run at (Byte b next) = (at < next) × (next ≤ length run) × (drop at run ≡ escaped b ++ drop next run)
+Stands run at (Refused why) = Unit {0}
 
-escape-ahead : (run : List ℕ) (at : ℕ) → Ahead at (length run) (escapeAt run at)
-unfolding escapeAt
-escape-ahead run at =
+-- the same of the second half of an escape, with the A9 before it
+abbrev Follows : List ℕ → ℕ → Logical → Type 0
+Follows run at (Byte b next) = (at < next) × (next ≤ length run) × (esc ∷ drop at run ≡ escaped b ++ drop next run)
+Follows run at (Refused why) = Unit {0}
+
+escape-follows : (run : List ℕ) (at : ℕ) → Follows run at (escapeAt run at)
+unfolding escapeAt escaped
+escape-follows run at =
     let x = getD run at 0 in
-    let A = Ahead at (length run) in
-    pick-cases A (ltb at (length run)) _ _
-    (λ t. let h : at < length run = ltb-true at (length run) t in
-      pick-cases A (eqb x 0x00) _ _ (λ _. (omega arith, omega arith))
-      (λ _. pick-cases A (eqb x 0x01) _ _ (λ _. (omega arith, omega arith))
-        (λ _. pick-cases A (eqb x 0xAA) _ _ (λ _. tt) (λ _. tt))))
+    let F = Follows run at in
+    pick-cases F (ltb at (length run)) _ _
+    (λ t.
+    let h : at < length run = ltb-true at (length run) t in
+    let as-is : (b : ℕ) → x ≡ b → esc ∷ drop at run ≡ esc ∷ b ∷ drop (at + 1) run =
+    λ b e. ap (λ (l : List ℕ). esc ∷ l) (drop-next run at h ∙ ap (λ (y : ℕ). y ∷ drop (at + 1) run) e) in
+    pick-cases F (eqb x 0x00) _ _ (λ e. (omega arith, omega arith, as-is 0x00 (eqb-true x 0x00 e)))
+    (λ _. pick-cases F (eqb x 0x01) _ _ (λ e. (omega arith, omega arith, as-is 0x01 (eqb-true x 0x01 e)))
+    (λ _. pick-cases F (eqb x syn) _ _ (λ _. tt) (λ _. tt))))
     (λ _. tt)
 
-sooner : (at end : ℕ) (l : Logical) → Ahead (at + 1) end l → Ahead at end l
-sooner at end (Byte b next) h = (omega arith, h .1)
-sooner at end (Refused why) h = tt
+whole-escape : (run : List ℕ) (at : ℕ) → drop at run ≡ esc ∷ drop (at + 1) run → (l : Logical) → Follows run (at + 1) l → Stands run at l
+whole-escape run at e (Byte b next) f = (omega arith, f .1, e ∙ f .2)
+whole-escape run at e (Refused why) f = tt
 
-pub logical-ahead : (run : List ℕ) (at : ℕ) → Ahead at (length run) (logicalAt run at)
+pub logical-stands : (run : List ℕ) (at : ℕ) → Stands run at (logicalAt run at)
 unfolding logicalAt
-logical-ahead run at =
+logical-stands run at =
     let x = getD run at 0 in
-    let A = Ahead at (length run) in
-    pick-cases A (ltb at (length run)) _ _
-    (λ t. let h : at < length run = ltb-true at (length run) t in
-      pick-cases A (eqb x 0xA9) _ _ (λ _. sooner at (length run) (escapeAt run (at + 1)) (escape-ahead run (at + 1)))
-      (λ _. pick-cases A (eqb x 0xAA) _ _ (λ _. tt) (λ _. (omega arith, omega arith))))
+    let S = Stands run at in
+    pick-cases S (ltb at (length run)) _ _
+    (λ t.
+    let h : at < length run = ltb-true at (length run) t in
+    pick-cases S (eqb x esc) _ _
+    (λ e. whole-escape run at (drop-next run at h ∙ ap (λ (y : ℕ). y ∷ drop (at + 1) run) (eqb-true x esc e)) (escapeAt run (at + 1)) (escape-follows run (at + 1)))
+    (λ no-esc. pick-cases S (eqb x syn) _ _ (λ _. tt)
+    (λ no-syn. (
+      omega arith,
+      omega arith,
+      drop-next run at h ∙ ap (λ (l : List ℕ). l ++ drop (at + 1) run) (sym (escaped-plain x (eqb-false x esc no-esc) (eqb-false x syn no-syn))),
+    ))))
     (λ _. tt)
+
+-- a byte that was read
+pub stands : (run : List ℕ) (at b next : ℕ) → logicalAt run at ≡ Byte b next → Stands run at (Byte b next)
+stands run at b next e = subst (Stands run at) e (logical-stands run at)
 
 -- ---- n logical bytes have been read: the input has n fewer to come
 

@@ -14,7 +14,7 @@ ghost use lib.ListN.{length};
 ghost use Rattle.crc.specs.Escape.{expanded};
 ghost use Rattle.refusal.specs.Number.{outputShort, at-place};
 ghost use Rattle.refusal.specs.Output.{bytes, content, fitting, answer, starting, Wrote};
-ghost use Rattle.ebus.specs.Logical.{endedAt, escapeAt, logicalAt};
+ghost use Rattle.ebus.specs.Logical.{escapeAt, logicalAt};
 ghost use Rattle.ebus.specs.Undo.{undone};
 
 const ESC: u8 = 0xA9;
@@ -27,34 +27,25 @@ pub enum Logical {
     Refused(Refusal),
 }
 
-// A run that ends where a byte was due.
-fn ended(run: &[u8]) -> Logical
-    ensures { λ r. ⌜ r ≡ endedAt (now (run .entry)) ⌝ }
+// No logical byte, for this reason.
+fn no_byte(number: u8, place: usize) -> Logical
+    ensures { λ r. ⌜ r ≡ Logical.Refused (at-place number place) ⌝ }
 {
-    Logical::Refused(Refusal {
-        number: RUN_ENDED,
-        place: run.len(),
-    })
+    Logical::Refused(Refusal { number, place })
 }
 
 // The second half of an escape, at its own place.
-fn escape_at(run: &[u8], at: usize) -> Logical
-    ensures { λ r. ⌜ r ≡ escapeAt (now (run .entry)) at ⌝ }
+fn escape_at(run: &[u8], second: usize) -> Logical
+    ensures { λ r. ⌜ r ≡ escapeAt (now (run .entry)) second ⌝ }
 {
-    if run.len() <= at {
-        return ended(run);
+    if run.len() <= second {
+        return no_byte(RUN_ENDED, run.len());
     }
-    match run[at] {
-        0x00 => Logical::Byte(ESC, at + 1),
-        0x01 => Logical::Byte(SYN, at + 1),
-        SYN => Logical::Refused(Refusal {
-            number: SYN_EARLY,
-            place: at,
-        }),
-        _ => Logical::Refused(Refusal {
-            number: ESCAPE_WRONG,
-            place: at,
-        }),
+    match run[second] {
+        0x00 => Logical::Byte(ESC, second + 1),
+        0x01 => Logical::Byte(SYN, second + 1),
+        SYN => no_byte(SYN_EARLY, second),
+        _ => no_byte(ESCAPE_WRONG, second),
     }
 }
 
@@ -63,15 +54,13 @@ fn escape_at(run: &[u8], at: usize) -> Logical
 pub fn logical_at(run: &[u8], at: usize) -> Logical
     ensures { λ r. ⌜ r ≡ logicalAt (now (run .entry)) at ⌝ }
 {
-    if run.len() <= at {
-        return ended(run);
+    let end = run.len();
+    if end <= at {
+        return no_byte(RUN_ENDED, end);
     }
     match run[at] {
         ESC => escape_at(run, at + 1),
-        SYN => Logical::Refused(Refusal {
-            number: SYN_EARLY,
-            place: at,
-        }),
+        SYN => no_byte(SYN_EARLY, at),
         byte => Logical::Byte(byte, at + 1),
     }
 }
@@ -116,10 +105,10 @@ fn undo_into(raw: &[u8], out: &mut [u8])
     let mut at = 0;
     let mut n = 0;
     while at < raw.len() {
-        let Logical::Byte(byte, next) = logical_at(raw, at) else {
+        let Logical::Byte(value, next) = logical_at(raw, at) else {
             return;
         };
-        out[n] = byte;
+        out[n] = value;
         n += 1;
         at = next;
     }
@@ -192,10 +181,10 @@ fn expand_into(logical: &[u8], out: &mut [u8])
 pub fn expand(logical: &[u8], out: &mut [u8]) -> Written
     ensures { λ r. ⌜ Wrote (fitting (length (now (out .entry))) (bytes (expanded (now (logical .entry))))) r (now (out .entry)) (now (out .exit)) ⌝ }
 {
-    let n = expanded_length(logical);
-    if out.len() < n {
+    let length = expanded_length(logical);
+    if out.len() < length {
         return too_short();
     }
     expand_into(logical, out);
-    Written::Length(n)
+    Written::Length(length)
 }

@@ -39,7 +39,7 @@ module _ (bs old : List ℕ) where
       → set (starting (take n bs) old) n (getD bs n 0) ≡ starting (take (n + 1) bs) old
   starting-more n h room =
       ap (λ (l : List ℕ). set l n (getD bs n 0))
-        (starting-take n (omega arith) ∙ ap (λ (l : List ℕ). take n bs ++ l) (drop-cons old n 0 (omega arith)))
+      (starting-take n (omega arith) ∙ ap (λ (l : List ℕ). take n bs ++ l) (drop-cons old n 0 (omega arith)))
       ∙ set-at (take n bs) (getD old n 0) (drop (suc n) old) (getD bs n 0) n (length-take-le n bs (omega arith))
       ∙ sym (append-snoc (take n bs) (getD bs n 0) (drop (suc n) old))
       ∙ ap (λ (l : List ℕ). l ++ drop (suc n) old) (sym (take-suc bs n 0 h))

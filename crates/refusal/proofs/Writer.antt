@@ -50,9 +50,9 @@ module _ (o : Output) (room : ℕ) (old : List ℕ) where
     pub wrote-all : (new : List ℕ) → n ≤ room → new ≡ starting (content o) old → Wrote (fitting room o) (Length n) old new
     wrote-all new enough is-new =
         let fits : fitting room o ≡ o =
-          ap (fitting room) (accepted o n e)
-          ∙ ap (λ b. pick b (bytes (content o)) (refused (at-place outputShort 0))) (le-leb (length (content o)) room (omega (arith, accepted-length o n e)))
-          ∙ sym (accepted o n e) in
+        ap (fitting room) (accepted o n e)
+        ∙ ap (λ b. pick b (bytes (content o)) (refused (at-place outputShort 0))) (le-leb (length (content o)) room (omega (arith, accepted-length o n e)))
+        ∙ sym (accepted o n e) in
         record {
           result = sym (ap answer fits ∙ e);
           output = is-new ∙ ap (λ (out : Output). left out old) (sym (accepted o n e) ∙ sym fits);

@@ -40,7 +40,7 @@ slice-write-out c =
     let b = getD logical i 0 in
     let high : b ≤ syn = omega (arith, c .if2 .taken) in
     let due : drop n wire ≡ esc ∷ (b - esc) ∷ expanded (drop (i + 1) logical) =
-      c .before .before .before .before .loop .inv .2 ∙ expanded-special logical i (c .before .before .before .loop-test .taken) (special b (c .before .if1 .left) high) in
+    c .before .before .before .before .loop .inv .2 ∙ expanded-special logical i (c .before .before .before .loop-test .taken) (special b (c .before .if1 .left) high) in
     fill-within wire old out n esc ((b - esc) ∷ expanded (drop (i + 1) logical)) (c .before .before .before .before .before .pre) (c .before .before .before .before .loop .inv .3) due
 
 add-out : tie.Need-add-out Inv-loop μ-loop
@@ -54,7 +54,7 @@ add-out c =
     let b = getD logical i 0 in
     let high : b ≤ syn = omega (arith, c .if2 .taken) in
     let due : drop n wire ≡ esc ∷ (b - esc) ∷ expanded (drop (i + 1) logical) =
-      c .before .before .before .before .loop .inv .2 ∙ expanded-special logical i (c .before .before .before .loop-test .taken) (special b (c .before .if1 .left) high) in
+    c .before .before .before .before .loop .inv .2 ∙ expanded-special logical i (c .before .before .before .loop-test .taken) (special b (c .before .if1 .left) high) in
     omega (arith, head-within wire n esc ((b - esc) ∷ expanded (drop (i + 1) logical)) due)
 
 slice-write-out-2 : tie.Need-slice-write-out-2 Inv-loop μ-loop
@@ -68,7 +68,7 @@ slice-write-out-2 c =
     let b = getD logical i 0 in
     let high : b ≤ syn = omega (arith, c .if2 .taken) in
     let due : drop n wire ≡ esc ∷ (b - esc) ∷ expanded (drop (i + 1) logical) =
-      c .before .before .before .before .loop .inv .2 ∙ expanded-special logical i (c .before .before .before .loop-test .taken) (special b (c .before .if1 .left) high) in
+    c .before .before .before .before .loop .inv .2 ∙ expanded-special logical i (c .before .before .before .loop-test .taken) (special b (c .before .if1 .left) high) in
     let then : drop (n + 1) wire ≡ (b - esc) ∷ expanded (drop (i + 1) logical) = rest-is wire n esc ((b - esc) ∷ expanded (drop (i + 1) logical)) due in
     let first = fill-next wire old out n esc ((b - esc) ∷ expanded (drop (i + 1) logical)) (c .before .before .before .before .before .pre) (c .before .before .before .before .loop .inv .3) due in
     fill-within wire old (set out n esc) (n + 1) (b - esc) (expanded (drop (i + 1) logical)) (c .before .before .before .before .before .pre) first then
@@ -84,7 +84,7 @@ add-n c =
     let b = getD logical i 0 in
     let high : b ≤ syn = omega (arith, c .if2 .taken) in
     let due : drop n wire ≡ esc ∷ (b - esc) ∷ expanded (drop (i + 1) logical) =
-      c .before .before .before .before .loop .inv .2 ∙ expanded-special logical i (c .before .before .before .loop-test .taken) (special b (c .before .if1 .left) high) in
+    c .before .before .before .before .loop .inv .2 ∙ expanded-special logical i (c .before .before .before .loop-test .taken) (special b (c .before .if1 .left) high) in
     let then : drop (n + 1) wire ≡ (b - esc) ∷ expanded (drop (i + 1) logical) = rest-is wire n esc ((b - esc) ∷ expanded (drop (i + 1) logical)) due in
     omega (arith, head-within wire (n + 1) (b - esc) (expanded (drop (i + 1) logical)) then)
 
@@ -102,16 +102,17 @@ loop-again c =
     let b = getD logical i 0 in
     let high : b ≤ syn = omega (arith, c .if2 .taken) in
     let due : drop n wire ≡ esc ∷ (b - esc) ∷ expanded (drop (i + 1) logical) =
-      c .before .before .before .before .loop .inv .2 ∙ expanded-special logical i (c .before .before .before .loop-test .taken) (special b (c .before .if1 .left) high) in
+    c .before .before .before .before .loop .inv .2 ∙ expanded-special logical i (c .before .before .before .loop-test .taken) (special b (c .before .if1 .left) high) in
     let then : drop (n + 1) wire ≡ (b - esc) ∷ expanded (drop (i + 1) logical) = rest-is wire n esc ((b - esc) ∷ expanded (drop (i + 1) logical)) due in
     let first = fill-next wire old out n esc ((b - esc) ∷ expanded (drop (i + 1) logical)) (c .before .before .before .before .before .pre) (c .before .before .before .before .loop .inv .3) due in
     let two : n + 1 + 1 ≡ n + 2 = omega arith in
     let second = fill-next wire old (set out n esc) (n + 1) (b - esc) (expanded (drop (i + 1) logical)) (c .before .before .before .before .before .pre) first then in
-    let within = head-within wire (n + 1) (b - esc) (expanded (drop (i + 1) logical)) then in
-    (omega arith,
+    let within = head-within wire (n + 1) (b - esc) (expanded (drop (i + 1) logical)) then in (
+      omega arith,
       omega arith,
       ap (λ (k : ℕ). drop k wire) (sym two) ∙ rest-is wire (n + 1) (b - esc) (expanded (drop (i + 1) logical)) then,
-      second ∙ ap (λ (k : ℕ). starting (take k wire) old) two)
+      second ∙ ap (λ (k : ℕ). starting (take k wire) old) two,
+    )
 
 slice-write-out-3 : tie.Need-slice-write-out-3 Inv-loop μ-loop
 slice-write-out-3 c =
@@ -156,11 +157,12 @@ loop-again-2 c =
     let no-esc : b ≡ esc → ⊥ = λ e. ⊎-elim (λ w. omega (arith, w .taken)) (λ w. omega (arith, w .1 .left)) (c .if1 .came) in
     let no-syn : b ≡ syn → ⊥ = λ e. ⊎-elim (λ w. omega (arith, w .taken)) (λ w. omega (arith, w .1 .left)) (c .if1 .came) in
     let due : drop n wire ≡ b ∷ expanded (drop (i + 1) logical) = c .before .before .before .loop .inv .2 ∙ expanded-plain logical i (c .before .before .loop-test .taken) no-esc no-syn in
-    let within = head-within wire n b (expanded (drop (i + 1) logical)) due in
-    (omega arith,
+    let within = head-within wire n b (expanded (drop (i + 1) logical)) due in (
+      omega arith,
       omega arith,
       rest-is wire n b (expanded (drop (i + 1) logical)) due,
-      fill-next wire old out n b (expanded (drop (i + 1) logical)) (c .before .before .before .before .pre) (c .before .before .before .loop .inv .3) due)
+      fill-next wire old out n b (expanded (drop (i + 1) logical)) (c .before .before .before .before .pre) (c .before .before .before .loop .inv .3) due,
+    )
 
 same-length : tie.Need-same-length Inv-loop μ-loop
 same-length c =

@@ -12,7 +12,7 @@ use Rattle.ebus.proofs.escape.expanded_length.Statement.{statement}
 use Rattle.ebus.proofs.escape.expanded_length.Tie as tie
 
 abbrev Inv-loop : tie.InvT-loop
-Inv-loop logical n₀ i₀ n i =     (i ≤ length logical) × (n ≤ 2 * i) × (n + length (expanded (drop i logical)) ≡ length (expanded logical))
+Inv-loop logical n₀ i₀ n i = (i ≤ length logical) × (n ≤ 2 * i) × (n + length (expanded (drop i logical)) ≡ length (expanded logical))
 
 abbrev μ-loop : tie.MeasureT-loop
 μ-loop logical n₀ i₀ n i = length logical - i

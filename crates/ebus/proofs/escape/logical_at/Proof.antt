@@ -1,17 +1,17 @@
 -- `ebus::escape::logical_at` meets its contract: each answer is picked by the tests that led there.
 -- Assumes nothing.
-use borrow.Author.Tests.{lt-ltb, le-ltb, eq-eqb, ne-eqb}
-use Rattle.ebus.specs.Logical.{logicalAt}
 use borrow.Author.Needs.{needs}
+use borrow.Author.Tests.{lt-ltb, le-ltb, ne-eqb}
+use Rattle.ebus.specs.Logical.{logicalAt}
 use Rattle.ebus.proofs.escape.logical_at.Statement.{statement}
 use Rattle.ebus.proofs.escape.logical_at.Tie as tie
 
-ended-requires : tie.Need-ended-requires
-ended-requires c κs = search needs
+no-byte-requires : tie.Need-no-byte-requires
+no-byte-requires c κs = search needs
 
 returns : tie.Need-returns
 unfolding logicalAt
-returns c = simp (le-ltb _ _ (c .before .if1 .taken)) (c .ended .ensures)
+returns c = simp (le-ltb _ _ (c .before .if1 .taken)) (c .no-byte .ensures)
 
 shared-slice-read-match : tie.Need-shared-slice-read-match
 shared-slice-read-match c = search needs
@@ -22,8 +22,11 @@ add-escape-at c = search needs
 escape-at-requires : tie.Need-escape-at-requires
 escape-at-requires c κs = search needs
 
-add-t12 : tie.Need-add-t12
-add-t12 c = search needs
+no-byte-requires-2 : tie.Need-no-byte-requires-2
+no-byte-requires-2 c κs = search needs
+
+add-t11 : tie.Need-add-t11
+add-t11 c = search needs
 
 returns-2 : tie.Need-returns-2
 unfolding logicalAt
@@ -31,7 +34,7 @@ returns-2 c = simp (lt-ltb _ _ (c .before .before .before .if1 .left), c .before
 
 returns-3 : tie.Need-returns-3
 unfolding logicalAt
-returns-3 c = simp (lt-ltb _ _ (c .before .before .if1 .left), c .match .keys2)
+returns-3 c = simp (lt-ltb _ _ (c .before .before .before .if1 .left), c .before .match .keys2) (c .no-byte2 .ensures)
 
 returns-4 : tie.Need-returns-4
 unfolding logicalAt
@@ -41,12 +44,13 @@ pub logical-at-spec : {M : Type 1} → statement M
 logical-at-spec =
     tie.close
     (tie.spec
-    ended-requires
+    no-byte-requires
     returns
     shared-slice-read-match
     add-escape-at
     escape-at-requires
-    add-t12
+    no-byte-requires-2
+    add-t11
     returns-2
     returns-3
     returns-4)

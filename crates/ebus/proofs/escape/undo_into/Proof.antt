@@ -12,7 +12,7 @@ use Rattle.refusal.specs.Output.{bytes, content, answer, starting}
 use Rattle.ebus.specs.declared.escape.Logical.the-variants.{Byte, Refused}
 use Rattle.ebus.specs.Logical.{logicalAt}
 use Rattle.ebus.specs.Undo.{before, undoneFrom, undone}
-use Rattle.ebus.proofs.Undo.{Ahead, logical-ahead, none-left, turn-byte, turn-refused, counted, counted-none, counted-one, before-bytes}
+use Rattle.ebus.proofs.Undo.{stands, none-left, turn-byte, turn-refused, counted, counted-none, counted-one, before-bytes}
 use Rattle.ebus.proofs.escape.undo_into.Statement.{statement}
 use Rattle.ebus.proofs.escape.undo_into.Tie as tie
 
@@ -32,8 +32,8 @@ loop-holds c =
 logical-at-requires : tie.Need-logical-at-requires Inv-loop μ-loop
 logical-at-requires c κs = search needs
 
-enum-known-byte : tie.Need-enum-known-byte Inv-loop μ-loop
-enum-known-byte c = search needs
+enum-known-value : tie.Need-enum-known-value Inv-loop μ-loop
+enum-known-value c = search needs
 
 enum-told : tie.Need-enum-told Inv-loop μ-loop
 enum-told c = search needs
@@ -58,9 +58,9 @@ slice-write-out c =
     let at = c .before .before .before .before .before .loop .at in
     let n = c .before .before .before .before .before .loop .n in
     let all = content (undone raw) in
-    let b = c .before .byte .given .0 .0 in
-    let next = c .before .byte .given .0 .1 .0 in
-    let e : logicalAt raw at ≡ Byte b next = sym (c .before .before .before .logical-at .ensures) ∙ c .before .byte .given .1 in
+    let b = c .before .value .given .0 .0 in
+    let next = c .before .value .given .0 .1 .0 in
+    let e : logicalAt raw at ≡ Byte b next = sym (c .before .before .before .logical-at .ensures) ∙ c .before .value .given .1 in
     let split = before-bytes b (undoneFrom raw (length raw - (n + 1)) next) (drop n all) (sym (turn-byte raw n at (c .before .before .before .before .before .loop .inv .0) (c .before .before .before .before .loop-test .taken) b next e) ∙ c .before .before .before .before .before .loop .inv .3) in
     fill-within all old (c .before .before .before .before .before .loop .out) n b (drop 1 (drop n all)) (c .before .before .before .before .before .before .before .before .pre .1) (c .before .before .before .before .before .loop .inv .4) (split .1)
 
@@ -74,10 +74,10 @@ loop-less c =
     let at = c .before .before .before .before .before .loop .at in
     let n = c .before .before .before .before .before .loop .n in
     let all = content (undone raw) in
-    let b = c .before .byte .given .0 .0 in
-    let next = c .before .byte .given .0 .1 .0 in
-    let e : logicalAt raw at ≡ Byte b next = sym (c .before .before .before .logical-at .ensures) ∙ c .before .byte .given .1 in
-    let ahead : (at < next) × (next ≤ length raw) = subst (Ahead at (length raw)) e (logical-ahead raw at) in
+    let b = c .before .value .given .0 .0 in
+    let next = c .before .value .given .0 .1 .0 in
+    let e : logicalAt raw at ≡ Byte b next = sym (c .before .before .before .logical-at .ensures) ∙ c .before .value .given .1 in
+    let ahead = stands raw at b next e in
     omega arith
 
 loop-again : tie.Need-loop-again Inv-loop μ-loop
@@ -87,16 +87,17 @@ loop-again c =
     let at = c .before .before .before .before .before .loop .at in
     let n = c .before .before .before .before .before .loop .n in
     let all = content (undone raw) in
-    let b = c .before .byte .given .0 .0 in
-    let next = c .before .byte .given .0 .1 .0 in
-    let e : logicalAt raw at ≡ Byte b next = sym (c .before .before .before .logical-at .ensures) ∙ c .before .byte .given .1 in
+    let b = c .before .value .given .0 .0 in
+    let next = c .before .value .given .0 .1 .0 in
+    let e : logicalAt raw at ≡ Byte b next = sym (c .before .before .before .logical-at .ensures) ∙ c .before .value .given .1 in
     let split = before-bytes b (undoneFrom raw (length raw - (n + 1)) next) (drop n all) (sym (turn-byte raw n at (c .before .before .before .before .before .loop .inv .0) (c .before .before .before .before .loop-test .taken) b next e) ∙ c .before .before .before .before .before .loop .inv .3) in
-    let ahead : (at < next) × (next ≤ length raw) = subst (Ahead at (length raw)) e (logical-ahead raw at) in
-    (omega arith,
+    let ahead = stands raw at b next e in (
+      omega arith,
       ahead .1,
       omega (arith, head-within all n b (drop 1 (drop n all)) (split .1)),
       split .0 ∙ ap bytes (sym (rest-is all n b (drop 1 (drop n all)) (split .1))),
-      fill-next all old (c .before .before .before .before .before .loop .out) n b (drop 1 (drop n all)) (c .before .before .before .before .before .before .before .before .pre .1) (c .before .before .before .before .before .loop .inv .4) (split .1))
+      fill-next all old (c .before .before .before .before .before .loop .out) n b (drop 1 (drop n all)) (c .before .before .before .before .before .before .before .before .pre .1) (c .before .before .before .before .before .loop .inv .4) (split .1),
+    )
 
 same-length-2 : tie.Need-same-length-2 Inv-loop μ-loop
 same-length-2 c =
@@ -120,7 +121,7 @@ undo-into-spec =
     μ-loop
     loop-holds
     logical-at-requires
-    enum-known-byte
+    enum-known-value
     enum-told
     same-length
     returns

@@ -12,7 +12,7 @@ use Rattle.refusal.specs.declared.Written.the-variants.{Length}
 use Rattle.ebus.specs.declared.escape.Logical.the-variants.{Byte, Refused}
 use Rattle.ebus.specs.Logical.{logicalAt}
 use Rattle.ebus.specs.Undo.{before, undoneFrom, undone}
-use Rattle.ebus.proofs.Undo.{Ahead, logical-ahead, none-left, turn-byte, turn-refused, counted, counted-none, counted-one, before-bytes}
+use Rattle.ebus.proofs.Undo.{stands, none-left, turn-byte, turn-refused, counted, counted-none, counted-one, before-bytes}
 use Rattle.ebus.proofs.escape.undone_length.Statement.{statement}
 use Rattle.ebus.proofs.escape.undone_length.Tie as tie
 
@@ -45,7 +45,7 @@ loop-less c =
     let b = c .before .byte .given .0 .0 in
     let next = c .before .byte .given .0 .1 .0 in
     let e : logicalAt raw at ≡ Byte b next = sym (c .before .before .before .logical-at .ensures) ∙ c .before .byte .given .1 in
-    let ahead : (at < next) × (next ≤ length raw) = subst (Ahead at (length raw)) e (logical-ahead raw at) in
+    let ahead = stands raw at b next e in
     omega arith
 
 loop-again : tie.Need-loop-again Inv-loop μ-loop
@@ -56,11 +56,12 @@ loop-again c =
     let b = c .before .byte .given .0 .0 in
     let next = c .before .byte .given .0 .1 .0 in
     let e : logicalAt raw at ≡ Byte b next = sym (c .before .before .before .logical-at .ensures) ∙ c .before .byte .given .1 in
-    let ahead : (at < next) × (next ≤ length raw) = subst (Ahead at (length raw)) e (logical-ahead raw at) in
-    (omega arith,
+    let ahead = stands raw at b next e in (
+      omega arith,
       ahead .1,
       sym (counted-one n b (undoneFrom raw (length raw - (n + 1)) next))
-      ∙ ap (counted n) (sym (turn-byte raw n at (c .before .before .before .before .before .loop .inv .0) (c .before .before .before .before .loop-test .taken) b next e)) ∙ c .before .before .before .before .before .loop .inv .2)
+          ∙ ap (counted n) (sym (turn-byte raw n at (c .before .before .before .before .before .loop .inv .0) (c .before .before .before .before .loop-test .taken) b next e)) ∙ c .before .before .before .before .before .loop .inv .2,
+    )
 
 enum-known-byte-2 : tie.Need-enum-known-byte-2 Inv-loop μ-loop
 enum-known-byte-2 c = search needs
