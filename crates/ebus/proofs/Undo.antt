@@ -6,15 +6,15 @@ use mathlib.Core.List.{List, [], _∷_, _++_}
 use Prim.Native.Nat.{ℕ, zero, suc, _+_, _-_, _≤_, _<_}
 use native.Mathlib.Omega.{arith}
 use lib.Dec.{eqb, ltb}
-use lib.ListN.{length, getD, drop}
+use lib.ListN.{length, getD, take, drop, set}
 use borrow.Author.Tests.{lt-ltb, le-ltb, ltb-true, eqb-true, eqb-false}
 use Rattle.refusal.specs.Choice.{pick}
-use Rattle.refusal.specs.Output.{Output, bytes, refused, content, answer}
+use Rattle.refusal.specs.Output.{Output, bytes, refused, content, answer, starting}
 use Rattle.refusal.specs.declared.Refusal.{Refusal}
 use Rattle.refusal.specs.declared.Written.{Written}
 use Rattle.refusal.specs.declared.Written.the-variants.{Length, Refused as NotWritten}
 use Rattle.refusal.proofs.Cases.{pick-cases}
-use Rattle.refusal.proofs.Lists.{drop-next}
+use Rattle.refusal.proofs.Lists.{drop-next, head-within, rest-is, fill-within, fill-next}
 use Rattle.crc.specs.Escape.{esc, syn, escaped}
 use Rattle.crc.proofs.Escape.{escaped-plain}
 use Rattle.ebus.specs.declared.escape.Logical.{Logical}
@@ -116,3 +116,47 @@ before-bytes b (bytes bs) l e =
     let same : b ∷ bs ≡ l = cc in
     (ap (λ (x : List ℕ). bytes (drop 1 x)) same, sym same ∙ ap (λ (x : List ℕ). b ∷ drop 1 x) same)
 before-bytes b (refused why) l e = let z : _≡_ {A = ℕ} 0 1 = cc in let f : ⊥ = omega arith in absurd f
+
+-- ---- one turn of the loop that writes the logical bytes of an accepted input
+
+-- the output starts with the first n logical bytes, and the input from at on gives the others
+pub record Undoing (raw old out : List ℕ) (n at : ℕ) : Type 0 where
+  pub read : n ≤ at
+  pub ends : at ≤ length raw
+  pub within : n ≤ length (content (undone raw))
+  pub rest : undoneFrom raw (length raw - n) at ≡ bytes (drop n (content (undone raw)))
+  pub output : out ≡ starting (take n (content (undone raw))) old
+
+module _ (raw old out : List ℕ) (n at : ℕ) (u : Undoing raw old out n at) (more : at < length raw) where
+  -- an accepted input has no refusal in it
+  pub never-refused : (why : Refusal) → logicalAt raw at ≡ Refused why → ⊥
+  never-refused why e =
+      let gone = turn-refused raw n at (u .read) more why e in
+      let stays = u .rest in
+      let z : _≡_ {A = ℕ} 0 1 = cc in
+      omega arith
+
+  module _ (room : length (content (undone raw)) ≤ length old) (b next : ℕ) (e : logicalAt raw at ≡ Byte b next) where
+    pub record Undid : Type 0 where
+      pub later : at < next
+      pub room-for : n < length out
+      pub undoing : Undoing raw old (set out n b) (n + 1) next
+
+    pub undid : Undid
+    undid =
+        let all = content (undone raw) in
+        let ahead = stands raw at b next e in
+        let parts = before-bytes b (undoneFrom raw (length raw - (n + 1)) next) (drop n all) (sym (turn-byte raw n at (u .read) more b next e) ∙ u .rest) in
+        let behind = drop 1 (drop n all) in
+        record {
+          later = ahead .0;
+          room-for = fill-within all old out n b behind room (u .output) (parts .1);
+          undoing =
+              record {
+                read = omega arith;
+                ends = ahead .1;
+                within = omega (arith, head-within all n b behind (parts .1));
+                rest = parts .0 ∙ ap bytes (sym (rest-is all n b behind (parts .1)));
+                output = fill-next all old out n b behind room (u .output) (parts .1);
+              };
+        }
