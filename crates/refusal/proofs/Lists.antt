@@ -8,7 +8,7 @@ use native.Mathlib.Nat.{add-zero}
 use native.Mathlib.Numerals.{add-one}
 use native.Mathlib.Omega.{arith}
 use lib.ListN.{length, getD, take, drop, set, length-drop, length-append}
-use lib.Seq.{drop-cons, drop-drop, getD-drop, take-suc, take-length, append-snoc, set-at, length-take-le}
+use lib.Seq.{drop-cons, drop-drop, getD-drop, take-suc, take-length, take-all, take-append-add, take-append-seam, append-snoc, set-at, length-take-le}
 use Rattle.refusal.specs.Output.{starting}
 
 -- ---- reading
@@ -72,3 +72,15 @@ module _ (bs old out : List ℕ) (n x : ℕ) (xs : List ℕ)
   fill-next =
       let h : n < length bs = head-within bs n x xs due in
       ap₂ (λ (l : List ℕ) (b : ℕ). set l n b) filled (sym (head-is bs n x xs due)) ∙ starting-more bs old n h room
+
+-- bytes that an output holds whole are put whole
+pub put-whole : (bs old : List ℕ) → length bs ≤ length old → starting (take (length old) bs) old ≡ starting bs old
+put-whole bs old h = ap (λ (l : List ℕ). starting l old) (take-all (length old) bs h)
+
+-- ---- putting bytes behind the first n of a list
+
+-- the list with bytes put into it from n on starts with its first n and those bytes
+pub put-behind : (l : List ℕ) (n : ℕ) (bs rest : List ℕ) → n ≤ length l → take (n + length bs) (take n l ++ (bs ++ rest)) ≡ take n l ++ bs
+put-behind l n bs rest h =
+    ap (λ (k : ℕ). take (k + length bs) (take n l ++ (bs ++ rest))) (sym (length-take-le n l h))
+    ∙ take-append-add (take n l) (bs ++ rest) (length bs) ∙ ap (λ (x : List ℕ). take n l ++ x) (take-append-seam bs rest)

@@ -57,3 +57,15 @@ module _ (o : Output) (room : ℕ) (old : List ℕ) where
           result = sym (ap answer fits ∙ e);
           output = is-new ∙ ap (λ (out : Output). left out old) (sym (accepted o n e) ∙ sym fits);
         }
+
+-- refused outright
+pub wrote-none : (o : Output) (room : ℕ) (old : List ℕ) (why : Refusal) (r : Written) → o ≡ refused why → r ≡ Refused why → Wrote (fitting room o) r old old
+wrote-none o room old why r e is =
+    record {
+      result = is ∙ ap (λ (x : Output). answer (fitting room x)) (sym e);
+      output = ap (λ (x : Output). left (fitting room x) old) (sym e);
+    }
+
+-- the same output under another name
+pub wrote-same : (o o′ : Output) (room : ℕ) (old new : List ℕ) (r : Written) → o ≡ o′ → Wrote (fitting room o) r old new → Wrote (fitting room o′) r old new
+wrote-same o o′ room old new r e w = subst (λ (x : Output). Wrote (fitting room x) r old new) e w

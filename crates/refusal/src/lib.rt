@@ -3,6 +3,10 @@
 // The constants read like document 01's table, "Numbers handed back on refusal". Each crate above
 // takes its numbers from here, so a new number is a new line here and changes no `match`.
 
+ghost use mathlib.Core.Path.{_≡_};
+ghost use lib.ListN.{length, take};
+ghost use Rattle.refusal.specs.Output.{starting};
+
 // A lent output is shorter than stated.
 pub const OUTPUT_SHORT: u8 = 1;
 // The device table is not valid.
@@ -48,4 +52,18 @@ pub struct Refusal {
 pub enum Written {
     Length(usize),
     Refused(Refusal),
+}
+
+// Puts the bytes at the start of a lent output, as many as it holds; the bytes behind them stay.
+pub fn put(bytes: &[u8], out: &mut [u8])
+    ensures { λ _. ⌜ now (out .exit) ≡ starting (take (length (now (out .entry))) (now (bytes .entry))) (now (out .entry)) ⌝ }
+{
+    let mut i = 0;
+    while i < bytes.len() {
+        if out.len() <= i {
+            return;
+        }
+        out[i] = bytes[i];
+        i += 1;
+    }
 }
