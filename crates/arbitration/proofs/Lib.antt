@@ -1,0 +1,4 @@
+-- Laws of the contest.
+pub mod Tests
+pub mod Window
+pub mod Law

@@ -1,0 +1,39 @@
+-- W12, W13 and W14 of document 01, of the definitions. The addresses and what the two lists held before are any.
+-- Assumes nothing.
+use mathlib.Core.Path.{_≡_, refl}
+use mathlib.Core.List.{List, [], _∷_}
+use Prim.Native.Nat.{ℕ, suc}
+use Rattle.arbitration.specs.Contest.{some, keep, remaining, dominantWindows, winner}
+use Rattle.table.specs.Table.{Table, columns, every, different, valid}
+use Rattle.devices.specs.Request.{key, keysOf, position, winnerPlace, contend, respond}
+use Rattle.devices.specs.Calls.{guard}
+use Rattle.devices.specs.WholeScan.{scanFrom, serialsHeard, addressesHeard, closing, scanCall}
+use Rattle.devices.specs.declared.Scanned.the-variants.{Complete, Nobody, Unfinished}
+
+-- three devices, none scanned
+abbrev three : ℕ → ℕ → ℕ → Table
+three a b c = columns (0x0001EB37 ∷ 5 ∷ 9 ∷ []) (a ∷ b ∷ c ∷ []) (0 ∷ 0 ∷ 0 ∷ [])
+
+abbrev room : ℕ → ℕ → ℕ → List ℕ
+room x y z = x ∷ y ∷ z ∷ []
+
+-- W12 "serials 0001EB37, 5, 9: listed 5, 9, 0001EB37 in 4 requests", under any cap that allows as many
+pub w12 : (a b c p q r x y z more : ℕ)
+    → (scanCall (suc (suc (suc (suc more)))) (room p q r) (room x y z) (three a b c) .answer ≡ Complete 4)
+    × (scanCall (suc (suc (suc (suc more)))) (room p q r) (room x y z) (three a b c) .serials ≡ 5 ∷ 9 ∷ 0x0001EB37 ∷ [])
+    × (scanCall (suc (suc (suc (suc more)))) (room p q r) (room x y z) (three a b c) .addresses ≡ b ∷ c ∷ a ∷ [])
+unfolding some keep remaining dominantWindows winner every different valid key keysOf position winnerPlace contend respond guard scanFrom serialsHeard addressesHeard closing scanCall
+w12 a b c p q r x y z more = (refl, refl, refl)
+
+-- W13 "cap 3 lists the same, Unfinished, 3"
+pub w13 : (a b c p q r x y z : ℕ)
+    → (scanCall 3 (room p q r) (room x y z) (three a b c) .answer ≡ Unfinished 3)
+    × (scanCall 3 (room p q r) (room x y z) (three a b c) .serials ≡ 5 ∷ 9 ∷ 0x0001EB37 ∷ [])
+    × (scanCall 3 (room p q r) (room x y z) (three a b c) .addresses ≡ b ∷ c ∷ a ∷ [])
+unfolding some keep remaining dominantWindows winner every different valid key keysOf position winnerPlace contend respond guard scanFrom serialsHeard addressesHeard closing scanCall
+w13 a b c p q r x y z = (refl, refl, refl)
+
+-- W14 "no device, cap 1: Nobody, 1"
+pub w14 : scanCall 1 [] [] (columns [] [] []) .answer ≡ Nobody 1
+unfolding some keep remaining dominantWindows winner every different valid key keysOf position winnerPlace contend respond guard scanFrom serialsHeard addressesHeard closing scanCall
+w14 = refl

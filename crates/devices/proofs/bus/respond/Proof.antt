@@ -1,0 +1,54 @@
+-- `devices::bus::respond` meets its contract: a start contends with all marks 0. Assumes nothing.
+use mathlib.Core.Path.{_≡_, sym, subst}
+use mathlib.Core.Bool.{true}
+use mathlib.Core.List.{List}
+use Prim.Native.Nat.{ℕ}
+use Rattle.table.specs.Table.{columns, valid}
+use Rattle.devices.specs.Request.{Turn, IsTurn}
+use Rattle.devices.proofs.Kept.{cleared-valid, respond-start, respond-continue}
+use borrow.Author.Needs.{needs}
+use Rattle.devices.proofs.bus.respond.Statement.{statement}
+use Rattle.devices.proofs.bus.respond.Tie as tie
+
+enum-told : tie.Need-enum-told
+enum-told c = search needs
+
+clear-requires : tie.Need-clear-requires
+clear-requires c κs = search needs
+
+contend-requires : tie.Need-contend-requires
+contend-requires c κs = subst (λ (l : List ℕ). valid (columns (c .before .before .before .before .before .before .before .before .before .before .args .serials .now) (c .before .before .before .before .before .before .before .before .before .before .args .addresses .now) l) ≡ true) (sym (c .before .before .before .clear .ensures)) (cleared-valid (columns (c .before .before .before .before .before .before .before .before .before .before .args .serials .now) (c .before .before .before .before .before .before .before .before .before .before .args .addresses .now) (c .before .before .before .before .before .before .before .before .before .before .args .marks .now)) (c .before .before .before .before .before .before .before .before .before .before .pre))
+
+enum-told-2 : tie.Need-enum-told-2
+enum-told-2 c = search needs
+
+contend-requires-2 : tie.Need-contend-requires-2
+contend-requires-2 c κs = search needs
+
+same-length : tie.Need-same-length
+same-length c = search needs
+
+returns : tie.Need-returns
+returns c = subst (λ (u : Turn). IsTurn u (c .before .before .contend .result) (c .before .before .contend .last .1 .1 .0))
+    (respond-start (c .before .before .before .before .before .before .before .before .before .before .before .before .before .args .request) (columns (c .before .before .before .before .before .before .before .before .before .before .before .before .before .args .serials .now) (c .before .before .before .before .before .before .before .before .before .before .before .before .before .args .addresses .now) (c .before .before .before .before .before .before .before .before .before .before .before .before .before .args .marks .now)) (c .before .before .before .before .before .before .clear .last .0) (c .before .before .before .before .before .before .before .before .enum-told .given .1) (c .before .before .before .before .before .before .clear .ensures)) (c .before .before .contend .ensures)
+
+same-length-2 : tie.Need-same-length-2
+same-length-2 c = search needs
+
+returns-2 : tie.Need-returns-2
+returns-2 c = subst (λ (u : Turn). IsTurn u (c .before .before .contend2 .result) (c .before .before .contend2 .last .1 .1 .0))
+    (respond-continue (c .before .before .before .before .before .before .before .before .before .args .request) (columns (c .before .before .before .before .before .before .before .before .before .args .serials .now) (c .before .before .before .before .before .before .before .before .before .args .addresses .now) (c .before .before .before .before .before .before .before .before .before .args .marks .now)) (c .before .before .before .before .enum-told2 .given .1)) (c .before .before .contend2 .ensures)
+
+pub respond-spec : {M : Type 1} → statement M
+respond-spec =
+    tie.close
+    (tie.spec
+    enum-told
+    clear-requires
+    contend-requires
+    enum-told-2
+    contend-requires-2
+    same-length
+    returns
+    same-length-2
+    returns-2)

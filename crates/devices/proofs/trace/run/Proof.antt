@@ -1,0 +1,126 @@
+-- `devices::trace::run` meets its contract. The loop's invariant: what the scan comes to from here on is what it comes to from
+-- its first request on. Assumes nothing.
+use mathlib.Core.Path.{sym, _∙_}
+use Prim.Native.Nat.{_-_}
+use native.Mathlib.Omega.{arith}
+use Rattle.devices.proofs.Going.{Going, going-start, going-capped, going-ended, going-silent, going-room, going-on}
+use borrow.Author.Needs.{needs}
+use Rattle.devices.proofs.trace.run.Statement.{statement}
+use Rattle.devices.proofs.trace.run.Tie as tie
+
+abbrev Inv-loop : tie.InvT-loop
+Inv-loop serials addresses marks₀ found-serials₀ found-addresses₀ cap sent₀ marks found-serials found-addresses sent = Going cap serials addresses marks₀ found-serials₀ found-addresses₀ marks found-serials found-addresses sent
+
+abbrev μ-loop : tie.MeasureT-loop
+μ-loop serials addresses marks₀ found-serials₀ found-addresses₀ cap sent₀ marks found-serials found-addresses sent = cap - sent
+
+loop-holds : tie.Need-loop-holds Inv-loop μ-loop
+loop-holds c = going-start (c .before .before .before .before .before .args .cap) (c .before .before .before .before .before .args .serials .now) (c .before .before .before .before .before .args .addresses .now) (c .before .before .before .before .before .args .marks .now) (c .before .before .before .before .before .args .found-serials .now) (c .before .before .before .before .before .args .found-addresses .now) (c .before .before .before .before .before .pre .0)
+
+request-after-requires : tie.Need-request-after-requires Inv-loop μ-loop
+request-after-requires c κs = search needs
+
+respond-requires : tie.Need-respond-requires Inv-loop μ-loop
+respond-requires c κs = c .before .before .before .loop .inv .right
+
+enum-known-reply : tie.Need-enum-known-reply Inv-loop μ-loop
+enum-known-reply c = search needs
+
+mul-found-serials : tie.Need-mul-found-serials Inv-loop μ-loop
+mul-found-serials c = omega (arith, c .before .before .before .before .before .before .before .before .before .before .before .before .before .before .before .pre .1, going-room (c .before .before .before .before .before .before .before .before .before .before .before .before .before .before .before .args .cap) (c .before .before .before .before .before .before .before .before .before .before .before .before .before .before .before .args .serials .now) (c .before .before .before .before .before .before .before .before .before .before .before .before .before .before .before .args .addresses .now) (c .before .before .before .before .before .before .before .before .before .before .before .before .before .before .before .args .marks .now) (c .before .before .before .before .before .before .before .before .before .before .before .before .before .before .before .args .found-serials .now) (c .before .before .before .before .before .before .before .before .before .before .before .before .before .before .before .args .found-addresses .now) (c .before .before .before .before .before .before .before .before .before .before .before .before .before .before .before .pre .0) (c .before .before .before .before .before .before .before .before .before .before .before .before .before .before .before .pre .1) (c .before .before .before .before .before .before .before .before .before .before .before .before .before .before .before .pre .2) (c .before .before .before .before .before .before .before .before .before .loop .marks) (c .before .before .before .before .before .before .before .before .before .loop .found-serials) (c .before .before .before .before .before .before .before .before .before .loop .found-addresses) (c .before .before .before .before .before .before .before .before .before .loop .sent) (c .before .before .before .before .before .before .before .before .before .loop .inv) (c .before .before .before .before .before .before .before .before .loop-test .taken) (c .before .before .before .before .before .before .before .request-after .result) (c .before .before .before .before .before .before .before .request-after .ensures) (c .before .reply .given .0 .0) (c .before .reply .given .0 .1 .0) (c .before .reply .given .0 .1 .1 .0) (sym (c .before .before .before .before .before .respond .ensures .reply-is) ∙ c .before .reply .given .1))
+
+slice-write-found-serials : tie.Need-slice-write-found-serials Inv-loop μ-loop
+slice-write-found-serials c = omega (arith, c .before .before .before .before .before .before .before .before .before .before .before .before .before .before .before .pre .1, c .before .before .before .before .before .before .before .before .before .loop .inv .serials-kept, going-room (c .before .before .before .before .before .before .before .before .before .before .before .before .before .before .before .args .cap) (c .before .before .before .before .before .before .before .before .before .before .before .before .before .before .before .args .serials .now) (c .before .before .before .before .before .before .before .before .before .before .before .before .before .before .before .args .addresses .now) (c .before .before .before .before .before .before .before .before .before .before .before .before .before .before .before .args .marks .now) (c .before .before .before .before .before .before .before .before .before .before .before .before .before .before .before .args .found-serials .now) (c .before .before .before .before .before .before .before .before .before .before .before .before .before .before .before .args .found-addresses .now) (c .before .before .before .before .before .before .before .before .before .before .before .before .before .before .before .pre .0) (c .before .before .before .before .before .before .before .before .before .before .before .before .before .before .before .pre .1) (c .before .before .before .before .before .before .before .before .before .before .before .before .before .before .before .pre .2) (c .before .before .before .before .before .before .before .before .before .loop .marks) (c .before .before .before .before .before .before .before .before .before .loop .found-serials) (c .before .before .before .before .before .before .before .before .before .loop .found-addresses) (c .before .before .before .before .before .before .before .before .before .loop .sent) (c .before .before .before .before .before .before .before .before .before .loop .inv) (c .before .before .before .before .before .before .before .before .loop-test .taken) (c .before .before .before .before .before .before .before .request-after .result) (c .before .before .before .before .before .before .before .request-after .ensures) (c .before .reply .given .0 .0) (c .before .reply .given .0 .1 .0) (c .before .reply .given .0 .1 .1 .0) (sym (c .before .before .before .before .before .respond .ensures .reply-is) ∙ c .before .reply .given .1))
+
+slice-write-found-addresses : tie.Need-slice-write-found-addresses Inv-loop μ-loop
+slice-write-found-addresses c = omega (arith, c .before .before .before .before .before .before .before .before .before .before .before .before .before .before .before .pre .2, c .before .before .before .before .before .before .before .before .before .loop .inv .addresses-kept, going-room (c .before .before .before .before .before .before .before .before .before .before .before .before .before .before .before .args .cap) (c .before .before .before .before .before .before .before .before .before .before .before .before .before .before .before .args .serials .now) (c .before .before .before .before .before .before .before .before .before .before .before .before .before .before .before .args .addresses .now) (c .before .before .before .before .before .before .before .before .before .before .before .before .before .before .before .args .marks .now) (c .before .before .before .before .before .before .before .before .before .before .before .before .before .before .before .args .found-serials .now) (c .before .before .before .before .before .before .before .before .before .before .before .before .before .before .before .args .found-addresses .now) (c .before .before .before .before .before .before .before .before .before .before .before .before .before .before .before .pre .0) (c .before .before .before .before .before .before .before .before .before .before .before .before .before .before .before .pre .1) (c .before .before .before .before .before .before .before .before .before .before .before .before .before .before .before .pre .2) (c .before .before .before .before .before .before .before .before .before .loop .marks) (c .before .before .before .before .before .before .before .before .before .loop .found-serials) (c .before .before .before .before .before .before .before .before .before .loop .found-addresses) (c .before .before .before .before .before .before .before .before .before .loop .sent) (c .before .before .before .before .before .before .before .before .before .loop .inv) (c .before .before .before .before .before .before .before .before .loop-test .taken) (c .before .before .before .before .before .before .before .request-after .result) (c .before .before .before .before .before .before .before .request-after .ensures) (c .before .reply .given .0 .0) (c .before .reply .given .0 .1 .0) (c .before .reply .given .0 .1 .1 .0) (sym (c .before .before .before .before .before .respond .ensures .reply-is) ∙ c .before .reply .given .1))
+
+add-sent : tie.Need-add-sent Inv-loop μ-loop
+add-sent c = omega (arith, c .before .before .before .before .before .before .before .before .loop-test .taken)
+
+loop-less : tie.Need-loop-less Inv-loop μ-loop
+loop-less c = omega (arith, c .before .before .before .before .before .before .before .before .loop-test .taken)
+
+loop-again : tie.Need-loop-again Inv-loop μ-loop
+loop-again c = going-on (c .before .before .before .before .before .before .before .before .before .before .before .before .before .before .before .args .cap) (c .before .before .before .before .before .before .before .before .before .before .before .before .before .before .before .args .serials .now) (c .before .before .before .before .before .before .before .before .before .before .before .before .before .before .before .args .addresses .now) (c .before .before .before .before .before .before .before .before .before .before .before .before .before .before .before .args .marks .now) (c .before .before .before .before .before .before .before .before .before .before .before .before .before .before .before .args .found-serials .now) (c .before .before .before .before .before .before .before .before .before .before .before .before .before .before .before .args .found-addresses .now) (c .before .before .before .before .before .before .before .before .before .before .before .before .before .before .before .pre .0) (c .before .before .before .before .before .before .before .before .before .before .before .before .before .before .before .pre .1) (c .before .before .before .before .before .before .before .before .before .before .before .before .before .before .before .pre .2) (c .before .before .before .before .before .before .before .before .before .loop .marks) (c .before .before .before .before .before .before .before .before .before .loop .found-serials) (c .before .before .before .before .before .before .before .before .before .loop .found-addresses) (c .before .before .before .before .before .before .before .before .before .loop .sent) (c .before .before .before .before .before .before .before .before .before .loop .inv) (c .before .before .before .before .before .before .before .before .loop-test .taken) (c .before .before .before .before .before .before .before .request-after .result) (c .before .before .before .before .before .before .before .request-after .ensures) (c .before .reply .given .0 .0) (c .before .reply .given .0 .1 .0) (c .before .reply .given .0 .1 .1 .0) (sym (c .before .before .before .before .before .respond .ensures .reply-is) ∙ c .before .reply .given .1) (c .before .before .before .before .before .respond .last .1 .1 .1 .0) (c .before .before .before .before .before .respond .ensures .marks-are) (c .before .before .before .before .before .respond .kept .1 .1 .1 .0)
+
+enum-told : tie.Need-enum-told Inv-loop μ-loop
+enum-told c = search needs
+
+add-t18 : tie.Need-add-t18 Inv-loop μ-loop
+add-t18 c = omega (arith, c .before .before .before .before .before .before .before .loop-test .taken)
+
+same-length : tie.Need-same-length Inv-loop μ-loop
+same-length c = c .before .before .before .before .respond .kept .1 .1 .1 .0 ∙ c .before .before .before .before .before .before .before .before .loop .inv .marks-kept
+
+same-length-2 : tie.Need-same-length-2 Inv-loop μ-loop
+same-length-2 c = c .before .before .before .before .before .before .before .before .loop .inv .serials-kept
+
+same-length-3 : tie.Need-same-length-3 Inv-loop μ-loop
+same-length-3 c = c .before .before .before .before .before .before .before .before .loop .inv .addresses-kept
+
+returns : tie.Need-returns Inv-loop μ-loop
+returns c = going-ended (c .before .before .before .before .before .before .before .before .before .before .before .before .before .before .args .cap) (c .before .before .before .before .before .before .before .before .before .before .before .before .before .before .args .serials .now) (c .before .before .before .before .before .before .before .before .before .before .before .before .before .before .args .addresses .now) (c .before .before .before .before .before .before .before .before .before .before .before .before .before .before .args .marks .now) (c .before .before .before .before .before .before .before .before .before .before .before .before .before .before .args .found-serials .now) (c .before .before .before .before .before .before .before .before .before .before .before .before .before .before .args .found-addresses .now) (c .before .before .before .before .before .before .before .before .before .before .before .before .before .before .pre .0) (c .before .before .before .before .before .before .before .before .before .before .before .before .before .before .pre .1) (c .before .before .before .before .before .before .before .before .before .before .before .before .before .before .pre .2) (c .before .before .before .before .before .before .before .before .loop .marks) (c .before .before .before .before .before .before .before .before .loop .found-serials) (c .before .before .before .before .before .before .before .before .loop .found-addresses) (c .before .before .before .before .before .before .before .before .loop .sent) (c .before .before .before .before .before .before .before .before .loop .inv) (c .before .before .before .before .before .before .before .loop-test .taken) (c .before .before .before .before .before .before .request-after .result) (c .before .before .before .before .before .before .request-after .ensures) (c .enum-told .given .0 .0) (c .before .before .before .before .respond .last .1 .1 .1 .0) (sym (c .before .before .before .before .respond .ensures .reply-is) ∙ c .enum-told .given .1) (c .before .before .before .before .respond .ensures .marks-are)
+
+enum-told-2 : tie.Need-enum-told-2 Inv-loop μ-loop
+enum-told-2 c = search needs
+
+add-t19 : tie.Need-add-t19 Inv-loop μ-loop
+add-t19 c = omega (arith, c .before .before .before .before .before .before .before .loop-test .taken)
+
+same-length-4 : tie.Need-same-length-4 Inv-loop μ-loop
+same-length-4 c = c .before .before .before .before .respond .kept .1 .1 .1 .0 ∙ c .before .before .before .before .before .before .before .before .loop .inv .marks-kept
+
+same-length-5 : tie.Need-same-length-5 Inv-loop μ-loop
+same-length-5 c = c .before .before .before .before .before .before .before .before .loop .inv .serials-kept
+
+same-length-6 : tie.Need-same-length-6 Inv-loop μ-loop
+same-length-6 c = c .before .before .before .before .before .before .before .before .loop .inv .addresses-kept
+
+returns-2 : tie.Need-returns-2 Inv-loop μ-loop
+returns-2 c = going-silent (c .before .before .before .before .before .before .before .before .before .before .before .before .before .before .args .cap) (c .before .before .before .before .before .before .before .before .before .before .before .before .before .before .args .serials .now) (c .before .before .before .before .before .before .before .before .before .before .before .before .before .before .args .addresses .now) (c .before .before .before .before .before .before .before .before .before .before .before .before .before .before .args .marks .now) (c .before .before .before .before .before .before .before .before .before .before .before .before .before .before .args .found-serials .now) (c .before .before .before .before .before .before .before .before .before .before .before .before .before .before .args .found-addresses .now) (c .before .before .before .before .before .before .before .before .before .before .before .before .before .before .pre .0) (c .before .before .before .before .before .before .before .before .before .before .before .before .before .before .pre .1) (c .before .before .before .before .before .before .before .before .before .before .before .before .before .before .pre .2) (c .before .before .before .before .before .before .before .before .loop .marks) (c .before .before .before .before .before .before .before .before .loop .found-serials) (c .before .before .before .before .before .before .before .before .loop .found-addresses) (c .before .before .before .before .before .before .before .before .loop .sent) (c .before .before .before .before .before .before .before .before .loop .inv) (c .before .before .before .before .before .before .before .loop-test .taken) (c .before .before .before .before .before .before .request-after .result) (c .before .before .before .before .before .before .request-after .ensures) (c .before .before .before .before .respond .last .1 .1 .1 .0) (sym (c .before .before .before .before .respond .ensures .reply-is) ∙ c .enum-told2 .given .1) (c .before .before .before .before .respond .ensures .marks-are)
+
+same-length-7 : tie.Need-same-length-7 Inv-loop μ-loop
+same-length-7 c = c .before .loop .inv .marks-kept
+
+same-length-8 : tie.Need-same-length-8 Inv-loop μ-loop
+same-length-8 c = c .before .loop .inv .serials-kept
+
+same-length-9 : tie.Need-same-length-9 Inv-loop μ-loop
+same-length-9 c = c .before .loop .inv .addresses-kept
+
+returns-3 : tie.Need-returns-3 Inv-loop μ-loop
+returns-3 c = going-capped (c .before .before .before .before .before .before .before .args .cap) (c .before .before .before .before .before .before .before .args .serials .now) (c .before .before .before .before .before .before .before .args .addresses .now) (c .before .before .before .before .before .before .before .args .marks .now) (c .before .before .before .before .before .before .before .args .found-serials .now) (c .before .before .before .before .before .before .before .args .found-addresses .now) (c .before .before .before .before .before .before .before .pre .0) (c .before .before .before .before .before .before .before .pre .1) (c .before .before .before .before .before .before .before .pre .2) (c .before .loop .marks) (c .before .loop .found-serials) (c .before .loop .found-addresses) (c .before .loop .sent) (c .before .loop .inv) (c .loop-test .left)
+
+pub run-spec : {M : Type 1} → statement M
+run-spec =
+    tie.close
+    (tie.spec
+    Inv-loop
+    μ-loop
+    loop-holds
+    request-after-requires
+    respond-requires
+    enum-known-reply
+    mul-found-serials
+    slice-write-found-serials
+    slice-write-found-addresses
+    add-sent
+    loop-less
+    loop-again
+    enum-told
+    add-t18
+    same-length
+    same-length-2
+    same-length-3
+    returns
+    enum-told-2
+    add-t19
+    same-length-4
+    same-length-5
+    same-length-6
+    returns-2
+    same-length-7
+    same-length-8
+    same-length-9
+    returns-3)

@@ -1,0 +1,2 @@
+-- The device table, and when it is valid.
+pub mod Table
