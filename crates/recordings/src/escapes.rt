@@ -23,7 +23,7 @@ fn refused_is(w: Written, number: u8, place: usize) -> bool {
 }
 
 // Whether the output starts with these bytes and is filled behind them.
-fn holds(out: &[u8], expected: &[u8]) -> bool {
+pub(crate) fn holds(out: &[u8], expected: &[u8]) -> bool {
     let mut right = expected.len() <= out.len();
     let mut i = 0;
     while i < out.len() {

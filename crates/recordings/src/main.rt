@@ -2,6 +2,8 @@
 // One line for each group says how many were run and how many were right.
 mod checks;
 mod escapes;
+mod exchanges;
+mod scans;
 mod tally;
 
 fn main() {
@@ -11,4 +13,18 @@ fn main() {
     checks::modbus_alone().say(b"Modbus check, each byte alone");
     escapes::expanded().say(b"expand");
     escapes::undone().say(b"undo");
+    exchanges::published().say(b"exchanges, published");
+    exchanges::lengths().say(b"exchanges, LEN 16 and 17");
+    exchanges::command_nacked().say(b"exchanges, command NACKed");
+    exchanges::reply_nacked().say(b"exchanges, reply NACKed");
+    exchanges::escaped().say(b"exchanges, escapes");
+    exchanges::prefixes().say(b"exchanges, every prefix");
+    exchanges::each_value(0, 13).say(b"exchanges, each SRC");
+    exchanges::each_value(1, 13).say(b"exchanges, each DST");
+    exchanges::each_value(4, 13).say(b"exchanges, each LEN");
+    exchanges::each_value(7, 8).say(b"exchanges, each byte after a command");
+    exchanges::each_value(11, 12).say(b"exchanges, each byte after a reply");
+    scans::sizes().say(b"scans, 0 to 248 devices");
+    scans::caps().say(b"scans, caps");
+    scans::serials().say(b"scans, serials");
 }

@@ -1,0 +1,171 @@
+// Whole scans of made tables, each held to what it must give: the answer, the number of requests,
+// the lists, and the marks.
+use crate::tally::Tally;
+use crate::tally::none;
+use devices::Scanned;
+use devices::scan;
+
+// What stays untouched in a lent list.
+const FILL: u32 = 0x5A5A5A5A;
+
+// The answers, as numbers to compare: Complete, Nobody, Unfinished and refused with 1 or 2.
+const COMPLETE: u8 = 10;
+
+const NOBODY: u8 = 11;
+
+const UNFINISHED: u8 = 12;
+
+// Whether a scan gave this answer; a number below 10 is a refusal at 0.
+fn gave(s: Scanned, answer: u8, sent: usize) -> bool {
+    match s {
+        Scanned::Complete(n) => answer == COMPLETE && n == sent,
+        Scanned::Nobody(n) => answer == NOBODY && n == sent,
+        Scanned::Unfinished(n) => answer == UNFINISHED && n == sent,
+        Scanned::Refused(why) => why.number == answer && why.place == 0,
+    }
+}
+
+// Serials in no order: all different for up to 251 devices.
+fn lay_out(serials: &mut [u32], first: u32, step: u32) {
+    let mut i = 0;
+    let mut at: u64 = 0;
+    while i < serials.len() {
+        let serial = (at % 251) * (step as u64) + (first as u64);
+        serials[i] = (serial % 0x1_0000_0000) as u32;
+        at = (at % 251 + 97) % 251;
+        i += 1;
+    }
+}
+
+// Whether the first n entries rise, and those behind them are as they were.
+fn rising(list: &[u32], n: usize) -> bool {
+    let mut right = n <= list.len();
+    let mut i = 0;
+    while i < list.len() {
+        if i < n {
+            if 0 < i {
+                right = right && list[i - 1] < list[i];
+            }
+        } else {
+            right = right && list[i] == FILL;
+        }
+        i += 1;
+    }
+    right
+}
+
+// Whether as many marks are 1, and the others 0.
+fn marked(marks: &[u8], n: usize) -> bool {
+    let mut ones: usize = 0;
+    let mut i = 0;
+    while i < marks.len() {
+        let mark = marks[i];
+        i += 1;
+        if mark == 1 {
+            ones += 1;
+        } else {
+            if mark != 0 {
+                return false;
+            }
+        }
+    }
+    ones == n
+}
+
+// A scan of the first n devices, with lists of that length.
+fn scan_first(
+    serials: &[u32],
+    addresses: &[u8],
+    marks: &mut [u8],
+    found: &mut [u32],
+    at: &mut [u8],
+    n: usize,
+    cap: usize,
+) -> Scanned {
+    if serials.len() < n {
+        return Scanned::Unfinished(0);
+    }
+    if addresses.len() < n {
+        return Scanned::Unfinished(0);
+    }
+    if marks.len() < n {
+        return Scanned::Unfinished(0);
+    }
+    if found.len() < n {
+        return Scanned::Unfinished(0);
+    }
+    if at.len() < n {
+        return Scanned::Unfinished(0);
+    }
+    scan(
+        &serials[..n],
+        &addresses[..n],
+        &mut marks[..n],
+        &mut found[..n],
+        &mut at[..n],
+        cap,
+    )
+}
+
+// Whether a scan of n devices under a cap gives this answer, names so many serials in rising order,
+// and marks as many devices.
+fn scanned(
+    n: usize,
+    first: u32,
+    step: u32,
+    cap: usize,
+    answer: u8,
+    sent: usize,
+    named: usize,
+) -> bool {
+    let mut serials = [0u32; 256];
+    let addresses = [7u8; 256];
+    let mut marks = [0u8; 256];
+    let mut found = [FILL; 256];
+    let mut at = [0x5Au8; 256];
+    lay_out(&mut serials, first, step);
+    let s = scan_first(
+        &serials,
+        &addresses,
+        &mut marks,
+        &mut found,
+        &mut at,
+        n,
+        cap,
+    );
+    gave(s, answer, sent) && rising(&found, named) && marked(&marks, named)
+}
+
+// 0, 1, 2, 9, 246, 247 and 248 devices.
+pub(crate) fn sizes() -> Tally {
+    none().with(scanned(0, 5, 11, 1, NOBODY, 1, 0))
+        .with(scanned(1, 5, 11, 2, COMPLETE, 2, 1))
+        .with(scanned(2, 5, 11, 3, COMPLETE, 3, 2))
+        .with(scanned(9, 5, 11, 10, COMPLETE, 10, 9))
+        .with(scanned(246, 5, 11, 247, COMPLETE, 247, 246))
+        .with(scanned(247, 5, 11, 248, COMPLETE, 248, 247))
+        .with(scanned(248, 5, 11, 249, 2, 0, 0))
+}
+
+// Caps of 0, 1, n, n + 1 and n + 2.
+pub(crate) fn caps() -> Tally {
+    none().with(scanned(9, 5, 11, 0, UNFINISHED, 0, 0))
+        .with(scanned(9, 5, 11, 1, UNFINISHED, 1, 1))
+        .with(scanned(9, 5, 11, 9, UNFINISHED, 9, 9))
+        .with(scanned(9, 5, 11, 10, COMPLETE, 10, 9))
+        .with(scanned(9, 5, 11, 11, COMPLETE, 10, 9))
+        .with(scanned(247, 5, 11, 247, UNFINISHED, 247, 247))
+        .with(scanned(0, 5, 11, 0, UNFINISHED, 0, 0))
+}
+
+// Serials that differ in the last bit only, in the highest only, from 0 and up to 0FFFFFFF; 10000000
+// and serials that stand twice.
+pub(crate) fn serials() -> Tally {
+    none().with(scanned(200, 0, 1, 201, COMPLETE, 201, 200))
+        .with(scanned(2, 0, 0x08000000, 3, COMPLETE, 3, 2))
+        .with(scanned(200, 0x0FFFFF05, 1, 201, COMPLETE, 201, 200))
+        .with(scanned(1, 0x0FFFFFFF, 1, 2, COMPLETE, 2, 1))
+        .with(scanned(1, 0x10000000, 1, 2, 2, 0, 0))
+        .with(scanned(2, 0x0FFFFFFF, 1, 3, 2, 0, 0))
+        .with(scanned(2, 5, 0, 3, 2, 0, 0))
+}

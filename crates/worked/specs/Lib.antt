@@ -1,0 +1,2 @@
+-- The worked examples that document 01 marks W.
+pub mod Rows
