@@ -50,7 +50,7 @@ pub data Telegram : Type 0 where
   read : List ℕ → ℕ → ℕ → Telegram
   unread : Refusal → Telegram
 
--- what is wrong with a byte of the head, of which n are due, itself counted: five before SRC, four before DST, one before LEN. 0 is nothing
+-- what is wrong with a byte of the head, of which n are due, itself counted: n is 5 at a command's SRC, 4 at its DST, and 1 at LEN. 0 is nothing
 unfoldable pub headFault : ℕ → ℕ → ℕ
 headFault n b =
     pick (eqb n 5) (pick (initiator b) 0 sourceWrong)

@@ -1,7 +1,7 @@
 // Escapes on the wire: A9 goes out as A9 00 and AA as A9 01; a raw AA is always SYN.
 //
-// Document 01, "eBUS check byte and escapes". `logical_at` is the layer that knows escapes; what is
-// above it reads logical bytes and knows none.
+// Document 01, "eBUS check byte and escapes". `logical_at` is the one reader that knows escapes;
+// what is above it reads logical bytes.
 use refusal::ESCAPE_WRONG;
 use refusal::OUTPUT_SHORT;
 use refusal::RUN_ENDED;

@@ -1,4 +1,4 @@
-// Telegrams: read from a run at a position, and written.
+// Telegrams, read from a run at a position.
 //
 // A telegram is its head, which ends with LEN, then LEN data bytes and the check byte. A command's
 // head is SRC DST PB SB LEN, a reply's is LEN alone; one reader serves both.

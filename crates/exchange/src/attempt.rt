@@ -54,7 +54,7 @@ pub struct Attempt {
     pub standing: Standing,
 }
 
-// How many attempts there were.
+// How many attempts there were, or the refusal.
 pub enum Tried {
     Once,
     Twice,
@@ -78,8 +78,8 @@ fn invalid_for(number: u8, place: usize) -> Answer
     Answer::Invalid(Refusal { number, place })
 }
 
-// The acknowledge byte at a position: one raw byte, with no escape rule. Only FF is a NACK; any
-// other byte is a bus error, and SYN ends the wait.
+// The acknowledge byte at a position: one raw byte, with no escape rule. 00 goes on, only
+// FF is a NACK, SYN ends the wait, and any other byte is a bus error.
 pub(crate) fn answer_at(run: &[u8], at: usize) -> Answer
     ensures { λ r. ⌜ answerOf r ≡ answerAt (now (run .entry)) at ⌝ }
 {

@@ -1,5 +1,5 @@
-// Whole scans of made tables, each held to what it must give: the answer, the number of requests,
-// the lists, and the marks.
+// Whole scans of made tables: the answer, the number of requests, how many serials were named in
+// rising order, and how many devices are marked.
 use crate::tally::Tally;
 use crate::tally::none;
 use devices::Scanned;

@@ -134,6 +134,6 @@ pub record Holds (t : Table) (calls : List Call) : Type 0 where
   pub scans : (cap : ℕ) (serials addresses : List ℕ) → refusalDue (devices t) (scan cap serials addresses) ≡ none
       → ScanDue t cap serials addresses (scanCall cap serials addresses (after calls t))
 
--- "For a valid table" of 1 to 247 devices with any marks, and any list of calls
+-- For a valid table of 1 to 247 devices with any marks, and any list of calls
 abbrev pub Demand3 : Type 0
 Demand3 = (t : Table) → valid t ≡ true → 0 < devices t → (calls : List Call) → Holds t calls
