@@ -1,0 +1,2 @@
+-- Each answer of the crates below as numbers.
+pub mod Answers

@@ -1,0 +1,128 @@
+// Telegrams and exchanges on eBUS for C.
+use answers::JudgeAnswer;
+use answers::PartAnswer;
+use answers::TelegramAnswer;
+use answers::WriteAnswer;
+use answers::judge_answer;
+use answers::write_answer;
+use ebus::telegram::Reading;
+use ebus::telegram::Telegram;
+use refusal::put;
+ghost use mathlib.Core.Path.{_≡_};
+ghost use lib.ListN.{length};
+ghost use Prim.Native.Nat.{_≤_};
+ghost use Rattle.refusal.specs.Output.{fitting};
+ghost use Rattle.ebus.specs.Telegram.{telegramAt, headOf, checkRight, commandOutput, replyOutput};
+ghost use Rattle.ebus.specs.View.{telegramOf};
+ghost use Rattle.exchange.specs.Data.{replyData};
+ghost use Rattle.exchange.specs.Exchange.{judged};
+ghost use Rattle.answers.specs.Answers.{telegramAnswer, partFor};
+ghost use Rattle.gateway.specs.Lent.{Writes, JudgesInto, Shows};
+
+// A telegram as far as it was read, as an answer.
+fn telegram_answer(x: Telegram) -> TelegramAnswer
+    requires { ⌜ x .len ≤ 22 ⌝ }
+    ensures { λ r. ⌜ r ≡ telegramAnswer (telegramOf x) ⌝ }
+{
+    let reading = x.reading;
+    match reading {
+        Reading::Read => {
+            let read = x.bytes;
+            let length = x.len;
+            let mut bytes = [0u8; 22];
+            put(&read[..length], &mut bytes);
+            TelegramAnswer {
+                number: 0,
+                place: 0,
+                length,
+                last: x.last,
+                next: x.next,
+                bytes,
+            }
+        }
+        Reading::Unread(why) => TelegramAnswer {
+            number: why.number,
+            place: why.place,
+            length: 0,
+            last: 0,
+            next: 0,
+            bytes: [0; 22],
+        },
+    }
+}
+
+// The command, or else the reply, at a position of the run; its check byte is not judged.
+#[no_mangle]
+pub extern "C" fn moor_telegram_at(run: &[u8], command: bool, at: usize) -> TelegramAnswer
+    ensures { λ r. ⌜ r ≡ telegramAnswer (telegramAt (headOf command) (now (run .entry)) at) ⌝ }
+{
+    telegram_answer(ebus::telegram::telegram_at(run, command, at))
+}
+
+// Whether the last byte is the check byte of those before it.
+#[no_mangle]
+pub extern "C" fn moor_check_right(telegram: &[u8]) -> bool
+    ensures { λ r. ⌜ r ≡ checkRight (now (telegram .entry)) ⌝ }
+{
+    ebus::telegram::check_right(telegram)
+}
+
+// Writes a command: 6, 7, 8, then 1 if its exact wire length exceeds the output.
+#[no_mangle]
+pub extern "C" fn moor_write_command(
+    source: u8,
+    destination: u8,
+    primary: u8,
+    secondary: u8,
+    payload: &[u8],
+    out: &mut [u8],
+) -> WriteAnswer
+    ensures { λ r. ⌜ Writes (fitting (length (now (out .entry))) (commandOutput source destination primary secondary (now (payload .entry)))) r (now (out .entry)) (now (out .exit)) ⌝ }
+{
+    write_answer(ebus::write::write_command(source, destination, primary, secondary, payload, out))
+}
+
+// Writes a reply: 8, then 1 if its exact wire length exceeds the output.
+#[no_mangle]
+pub extern "C" fn moor_write_reply(payload: &[u8], out: &mut [u8]) -> WriteAnswer
+    ensures { λ r. ⌜ Writes (fitting (length (now (out .entry))) (replyOutput (now (payload .entry)))) r (now (out .entry)) (now (out .exit)) ⌝ }
+{
+    write_answer(ebus::write::write_reply(payload, out))
+}
+
+// Judges a recorded run from its start into buffers of at least 22, 18 and 18 bytes.
+#[no_mangle]
+pub extern "C" fn moor_judge(
+    run: &[u8],
+    command: &mut [u8],
+    reply_1: &mut [u8],
+    reply_2: &mut [u8],
+) -> JudgeAnswer
+    ensures { λ r. ⌜ JudgesInto (judged (now (run .entry)) (length (now (command .entry))) (length (now («reply_1» .entry))) (length (now («reply_2» .entry)))) r (now (command .entry)) (now (command .exit)) (now («reply_1» .entry)) (now («reply_1» .exit)) (now («reply_2» .entry)) (now («reply_2» .exit)) ⌝ }
+{
+    judge_answer(exchange::judge::judge(run, command, reply_1, reply_2))
+}
+
+// Where the data of the reply attempt asked for stands, in the buffers that the judge filled.
+#[no_mangle]
+pub extern "C" fn moor_reply_data<'a>(
+    reply_1: &'a [u8],
+    reply_2: &'a [u8],
+    attempt: u8,
+) -> PartAnswer
+    ensures { λ r. ⌜ Shows (now («reply_1» .entry)) (now («reply_2» .entry)) attempt r ⌝ }
+{
+    let length = exchange::reply::reply_data(reply_1, reply_2, attempt).len();
+    if length == 0 {
+        return PartAnswer {
+            attempt: 1,
+            start: 0,
+            length,
+        };
+    }
+    PartAnswer {
+        attempt,
+        start: 1,
+        length,
+    }
+}
