@@ -1,4 +1,5 @@
 -- Laws of eBUS that belong to no one function.
+pub mod Half
 pub mod Expand
 pub mod Undo
 pub mod EscapeRoundTrip

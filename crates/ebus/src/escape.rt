@@ -34,19 +34,22 @@ fn no_byte(number: u8, place: usize) -> Logical
     Logical::Refused(Refusal { number, place })
 }
 
-// The second half of an escape, at its own place.
+// The second half of an escape, at its own place. It is added to A9, since nobody can foretell which
+// of the two it is, and a branch between them would be guessed wrong.
 fn escape_at(run: &[u8], second: usize) -> Logical
     ensures { λ r. ⌜ r ≡ escapeAt (now (run .entry)) second ⌝ }
 {
     if run.len() <= second {
         return no_byte(RUN_ENDED, run.len());
     }
-    match run[second] {
-        0x00 => Logical::Byte(ESC, second + 1),
-        0x01 => Logical::Byte(SYN, second + 1),
-        SYN => no_byte(SYN_EARLY, second),
-        _ => no_byte(ESCAPE_WRONG, second),
+    let half = run[second];
+    if half <= 1 {
+        return Logical::Byte(ESC + half, second + 1);
     }
+    if half == SYN {
+        return no_byte(SYN_EARLY, second);
+    }
+    no_byte(ESCAPE_WRONG, second)
 }
 
 // The logical byte at a position of the run. A refusal has document 01's number and place: 3, 4 or
