@@ -1,4 +1,4 @@
--- The head of a telegram: what no fault means for SRC, DST and LEN; and a head that was collected into an array is whole, with
+-- The head of a telegram: what no fault means for SRC, DST and LEN; and a head that was collected into a buffer is whole, with
 -- LEN at most 16.
 -- Assumes nothing.
 use mathlib.Core.Path.{_≡_, refl, sym, ap, _∙_, subst}
@@ -60,7 +60,7 @@ some-fine (b ∷ bs) head e h fine =
     subst (λ (k : ℕ). getD (b ∷ bs) k 0 ≤ longest) one (last-fine b bs fine)
 
 module _ (run : List ℕ) (head at len : ℕ) (held : List ℕ) (last next : ℕ)
-    (size : length held ≡ 22) (short : len ≤ head) (few : head ≤ 5) (some : 1 ≤ head)
+    (size : 22 ≤ length held) (short : len ≤ head) (few : head ≤ 5) (some : 1 ≤ head)
     (e : collected true run head [] at at ≡ read (take len held) last next) where
   gather : Gather true run head [] at (take len held) next
   gather = gathered-read true run head [] at at (take len held) last next e

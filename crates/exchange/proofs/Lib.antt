@@ -1,4 +1,5 @@
 -- Laws of judging that belong to no one function.
+pub mod HeadRead
 pub mod Held
 pub mod Places
 pub mod Verdict

@@ -13,9 +13,9 @@ use Rattle.refusal.specs.declared.Refusal.{Refusal}
 use Rattle.ebus.specs.declared.address.ExchangeKind.{ExchangeKind}
 use Rattle.exchange.specs.declared.judge.Judged.{Judged}
 use Rattle.exchange.specs.declared.judge.Judged.the-variants.{Accepted, Refused}
-use Rattle.exchange.specs.declared.judge.Exchange.{Exchange as HeldExchange}
+use Rattle.exchange.specs.declared.judge.Replies.{Replies as HeldReplies}
 use Rattle.exchange.specs.Exchange.{Outcome, accepted, rejected, exchangeAt, judged}
-use Rattle.exchange.specs.View.{viewedOutcome, outcomeOf, answered, commandOf, firstOf, secondOf, Judges}
+use Rattle.exchange.specs.View.{viewedReplies, repliesOf, answered, commandOf, firstOf, secondOf, Judges}
 
 module _ (run : List ℕ) (command first second : ℕ) where
   pub short-command : command < 22 → judged run command first second ≡ rejected (at-place outputShort 0)
@@ -46,15 +46,15 @@ module _ (o : Outcome) (command first second : List ℕ) where
       }
 
   -- an acceptance fills them
-  pub accepts : (e : HeldExchange) (kind : ExchangeKind) (commands replies read : ℕ) (command′ first′ second′ : List ℕ)
-      → o ≡ outcomeOf e → e .verdict ≡ Accepted kind commands replies read
-      → command′ ≡ starting (take (e .len0) (e .command)) command
-      → first′ ≡ starting (take (e .len1) (e .reply1)) first
-      → second′ ≡ starting (take (e .len2) (e .reply2)) second
+  pub accepts : (bytes one two : List ℕ) (e : HeldReplies) (kind : ExchangeKind) (commands replies read : ℕ) (command′ first′ second′ : List ℕ)
+      → o ≡ repliesOf e bytes one two → e .verdict ≡ Accepted kind commands replies read
+      → command′ ≡ starting bytes command
+      → first′ ≡ starting (take (e .len1) one) first
+      → second′ ≡ starting (take (e .len2) two) second
       → Judges o (e .verdict) command command′ first first′ second second′
-  accepts e kind commands replies read command′ first′ second′ is told c f s =
-      let whole : o ≡ accepted kind commands replies read (take (e .len0) (e .command)) (take (e .len1) (e .reply1)) (take (e .len2) (e .reply2)) =
-      is ∙ ap (viewedOutcome e) told in
+  accepts bytes one two e kind commands replies read command′ first′ second′ is told c f s =
+      let whole : o ≡ accepted kind commands replies read bytes (take (e .len1) one) (take (e .len2) two) =
+      is ∙ ap (viewedReplies bytes one two e) told in
       record {
         result = told ∙ ap answered (sym whole);
         command-buffer = c ∙ ap (λ (x : Outcome). starting (commandOf x) command) (sym whole);

@@ -15,7 +15,12 @@ use Rattle.exchange.specs.declared.attempt.Tried.{Tried}
 use Rattle.exchange.specs.declared.attempt.Tried.the-variants.{Once, Twice, Neither}
 use Rattle.exchange.specs.declared.judge.Judged.{Judged}
 use Rattle.exchange.specs.declared.judge.Judged.the-variants.{Accepted, Refused}
-use Rattle.exchange.specs.declared.judge.Exchange.{Exchange as HeldExchange}
+use Rattle.exchange.specs.declared.judge.Replies.{Replies as HeldReplies}
+use Rattle.exchange.specs.declared.telegram.Extent.{Extent}
+use Rattle.exchange.specs.declared.telegram.Telegram.{Telegram as HeldTelegram}
+use Rattle.ebus.specs.Telegram.{Telegram, read as whole, unread}
+use Rattle.ebus.specs.declared.telegram.Reading.{Reading}
+use Rattle.ebus.specs.declared.telegram.Reading.the-variants.{Read, Unread}
 use Rattle.exchange.specs.Exchange.{Answer, positive, negative, invalid, Attempt, taken, nacked, failed, Tries, once, twice, neither, Outcome, accepted, rejected}
 
 abbrev pub answerOf : AnswerByte → Answer
@@ -23,36 +28,40 @@ answerOf (Positive next) = positive next
 answerOf (Negative place) = negative place
 answerOf (Invalid why) = invalid why
 
-abbrev pub viewedAttempt : Held → Standing → Attempt
-viewedAttempt a Taken = taken (take (a .len) (a .bytes)) (a .next)
-viewedAttempt a Nacked = nacked (take (a .len) (a .bytes)) (a .next)
-viewedAttempt a (Failed why) = failed why
+-- how far a telegram was read, with the buffer that holds it: its bytes are the first len
+abbrev pub viewedExtent : List ℕ → Extent → Reading → Telegram
+viewedExtent held t Read = whole (take (t .len) held) (t .last) (t .next)
+viewedExtent held t (Unread why) = unread why
 
-abbrev pub attemptOf : Held → Attempt
-attemptOf a = viewedAttempt a (a .standing)
+abbrev pub extentOf : Extent → List ℕ → Telegram
+extentOf t held = viewedExtent held t (t .reading)
 
-abbrev pub viewedTries : HeldTries → Tried → Tries
-viewedTries t Once = once (take (t .len1) (t .first)) (t .next)
-viewedTries t Twice = twice (take (t .len1) (t .first)) (take (t .len2) (t .second)) (t .next)
-viewedTries t (Neither why) = neither why
+abbrev pub telegramOf : HeldTelegram → Telegram
+telegramOf t = extentOf (record { len = t .len; last = t .last; next = t .next; reading = t .reading }) (t .bytes)
 
-abbrev pub triesOf : HeldTries → Tries
-triesOf t = viewedTries t (t .tried)
+abbrev pub viewedAttempt : List ℕ → Held → Standing → Attempt
+viewedAttempt held a Taken = taken (take (a .len) held) (a .next)
+viewedAttempt held a Nacked = nacked (take (a .len) held) (a .next)
+viewedAttempt held a (Failed why) = failed why
 
--- what each case of the answer means: document 01's values, or its number and place
-abbrev pub viewedOutcome : HeldExchange → Judged → Outcome
-viewedOutcome e (Accepted kind commands replies read) =
-    accepted kind commands replies read (take (e .len0) (e .command)) (take (e .len1) (e .reply1)) (take (e .len2) (e .reply2))
-viewedOutcome e (Refused why) = rejected why
+abbrev pub attemptOf : Held → List ℕ → Attempt
+attemptOf a held = viewedAttempt held a (a .standing)
 
-abbrev pub outcomeOf : HeldExchange → Outcome
-outcomeOf e = viewedOutcome e (e .verdict)
+abbrev pub viewedTries : List ℕ → List ℕ → HeldTries → Tried → Tries
+viewedTries first second t Once = once (take (t .len1) first) (t .next)
+viewedTries first second t Twice = twice (take (t .len1) first) (take (t .len2) second) (t .next)
+viewedTries first second t (Neither why) = neither why
 
--- what an exchange holds fits its buffers
-pub record Bounded (e : HeldExchange) : Type 0 where
-  pub command-fits : e .len0 ≤ 22
-  pub first-fits : e .len1 ≤ 18
-  pub second-fits : e .len2 ≤ 18
+abbrev pub triesOf : HeldTries → List ℕ → List ℕ → Tries
+triesOf t first second = viewedTries first second t (t .tried)
+
+-- what each case of the answer means: document 01's values, or its number and place; behind a command of these bytes
+abbrev pub viewedReplies : List ℕ → List ℕ → List ℕ → HeldReplies → Judged → Outcome
+viewedReplies command first second e (Accepted kind commands replies n) = accepted kind commands replies n command (take (e .len1) first) (take (e .len2) second)
+viewedReplies command first second e (Refused why) = rejected why
+
+abbrev pub repliesOf : HeldReplies → List ℕ → List ℕ → List ℕ → Outcome
+repliesOf e command first second = viewedReplies command first second e (e .verdict)
 
 -- the answer for an outcome, and what the three buffers start with
 abbrev pub answered : Outcome → Judged

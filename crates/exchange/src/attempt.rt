@@ -1,10 +1,9 @@
 // One attempt at a command or a reply with its acknowledge byte, and one attempt or two.
 //
-// A refusal is returned as soon as it is met. Nothing lent is written here: what was read is carried
-// by value, so that a refusal can change nothing.
+// A refusal is returned as soon as it is met. What is read goes into arrays of the judge's own.
+use crate::telegram::read_telegram;
 use ebus::telegram::Reading;
 use ebus::telegram::check_right;
-use ebus::telegram::telegram_at;
 use ebus::telegram::why_unread;
 use refusal::BUS_ERROR;
 use refusal::CHECK_WRONG;
@@ -14,14 +13,17 @@ use refusal::RUN_ENDED;
 use refusal::Refusal;
 use refusal::SYN_EARLY;
 ghost use mathlib.Core.Path.{_≡_};
-ghost use Prim.Native.Nat.{_+_, _≤_};
-ghost use lib.ListN.{take};
+ghost use Prim.Native.Nat.{ℕ, _+_, _≤_};
+ghost use lib.ListN.{length, take};
 ghost use mathlib.Core.Bool.{false};
+ghost use mathlib.Core.List.{List};
 ghost use lib.Dec.{eqb};
 ghost use Rattle.refusal.specs.Choice.{pick};
 ghost use Rattle.refusal.specs.Number.{at-place};
 ghost use Rattle.ebus.specs.Telegram.{headOf};
-ghost use Rattle.exchange.specs.Exchange.{everyone, answerAt, settled, failed, onAnswer, attemptAt, neither, nackedTwice, onSecond, triesAt};
+ghost use Rattle.exchange.specs.Exchange.{everyone, answerAt, settled, onAnswer, attemptAt, nackedTwice, onSecond, triesAt};
+ghost use Rattle.exchange.specs.declared.attempt.Standing.the-variants.{Failed};
+ghost use Rattle.exchange.specs.declared.attempt.Tried.the-variants.{Neither};
 ghost use Rattle.exchange.specs.View.{answerOf, attemptOf, triesOf};
 
 const ACK: u8 = 0x00;
@@ -46,9 +48,8 @@ pub enum Standing {
     Failed(Refusal),
 }
 
-// An attempt: the first len of its bytes, and the position behind it, or the place of the FF.
+// An attempt: how many bytes it has, and the position behind it, or the place of the FF.
 pub struct Attempt {
-    pub bytes: [u8; 22],
     pub len: usize,
     pub next: usize,
     pub standing: Standing,
@@ -61,11 +62,9 @@ pub enum Tried {
     Neither(Refusal),
 }
 
-// One attempt or two: their bytes, and the position behind the last.
+// One attempt or two: how many bytes they have, and the position behind the last.
 pub struct Tries {
-    pub first: [u8; 22],
     pub len1: usize,
-    pub second: [u8; 22],
     pub len2: usize,
     pub next: usize,
     pub tried: Tried,
@@ -100,11 +99,9 @@ pub(crate) fn answer_at(run: &[u8], at: usize) -> Answer
 }
 
 fn attempt_failed(why: Refusal) -> Attempt
-    ensures { λ r. ⌜ attemptOf r ≡ failed why ⌝ }
-    ensures { λ r. ⌜ r .len ≡ 0 ⌝ }
+    ensures { λ r. ⌜ r ≡ record { len = 0; next = 0; standing = Failed why } ⌝ }
 {
     Attempt {
-        bytes: [0; 22],
         len: 0,
         next: 0,
         standing: Standing::Failed(why),
@@ -112,14 +109,13 @@ fn attempt_failed(why: Refusal) -> Attempt
 }
 
 // An acknowledged attempt, or a broadcast: its check byte is judged now.
-fn settle(bytes: [u8; 22], len: usize, check: usize, next: usize) -> Attempt
-    requires { ⌜ len ≤ 22 ⌝ }
-    ensures { λ r. ⌜ attemptOf r ≡ settled (take len bytes) check next ⌝ }
+fn settle(bytes: &[u8], len: usize, check: usize, next: usize) -> Attempt
+    requires { ⌜ len ≤ length (now bytes) ⌝ }
+    ensures { λ r. ⌜ attemptOf r (now (bytes .entry)) ≡ settled (take len (now (bytes .entry))) check next ⌝ }
     ensures { λ r. ⌜ r .len ≤ len ⌝ }
 {
     if check_right(&bytes[..len]) {
         return Attempt {
-            bytes,
             len,
             next,
             standing: Standing::Taken,
@@ -132,16 +128,15 @@ fn settle(bytes: [u8; 22], len: usize, check: usize, next: usize) -> Attempt
 }
 
 // An attempt whose acknowledge byte is due next.
-fn acknowledged(run: &[u8], bytes: [u8; 22], len: usize, check: usize, at: usize) -> Attempt
-    requires { ⌜ len ≤ 22 ⌝ }
-    ensures { λ r. ⌜ attemptOf r ≡ onAnswer (take len bytes) check (answerAt (now (run .entry)) at) ⌝ }
+fn acknowledged(run: &[u8], bytes: &[u8], len: usize, check: usize, at: usize) -> Attempt
+    requires { ⌜ len ≤ length (now bytes) ⌝ }
+    ensures { λ r. ⌜ attemptOf r (now (bytes .entry)) ≡ onAnswer (take len (now (bytes .entry))) check (answerAt (now (run .entry)) at) ⌝ }
     ensures { λ r. ⌜ r .len ≤ len ⌝ }
 {
     let answer = answer_at(run, at);
     match answer {
         Answer::Positive(next) => settle(bytes, len, check, next),
         Answer::Negative(place) => Attempt {
-            bytes,
             len,
             next: place,
             standing: Standing::Nacked,
@@ -161,30 +156,27 @@ fn is_unanswered(command: bool, destination: u8) -> bool
 }
 
 // An attempt at a command, or else at a reply, with its acknowledge byte. A broadcast has none.
-pub(crate) fn attempt_at(run: &[u8], command: bool, at: usize) -> Attempt
-    ensures { λ r. ⌜ attemptOf r ≡ attemptAt command (now (run .entry)) at ⌝ }
+pub(crate) fn attempt_at(run: &[u8], command: bool, at: usize, out: &mut [u8]) -> Attempt
+    requires { ⌜ 22 ≤ length (now out) ⌝ }
+    ensures { λ r. ⌜ attemptOf r (now (out .exit)) ≡ attemptAt command (now (run .entry)) at ⌝ }
     ensures { λ r. ⌜ r .len ≤ headOf command + 17 ⌝ }
 {
-    let t = telegram_at(run, command, at);
+    let t = read_telegram(run, command, at, out);
     let reading = t.reading;
-    let bytes = t.bytes;
     let Reading::Read = reading else {
         return attempt_failed(why_unread(reading));
     };
-    if is_unanswered(command, bytes[1]) {
-        return settle(bytes, t.len, t.last, t.next);
+    if is_unanswered(command, out[1]) {
+        return settle(out, t.len, t.last, t.next);
     }
-    acknowledged(run, bytes, t.len, t.last, t.next)
+    acknowledged(run, out, t.len, t.last, t.next)
 }
 
 fn no_tries(why: Refusal) -> Tries
-    ensures { λ r. ⌜ triesOf r ≡ neither why ⌝ }
-    ensures { λ r. ⌜ (r .len1 ≡ 0) × (r .len2 ≡ 0) ⌝ }
+    ensures { λ r. ⌜ r ≡ record { len1 = 0; len2 = 0; next = 0; tried = Neither why } ⌝ }
 {
     Tries {
-        first: [0; 22],
         len1: 0,
-        second: [0; 22],
         len2: 0,
         next: 0,
         tried: Tried::Neither(why),
@@ -201,19 +193,17 @@ fn nacked_twice(command: bool) -> u8
     REPLY_NACKED
 }
 
-// The second attempt, behind a first one that was NACKed.
-fn second_try(run: &[u8], command: bool, first: [u8; 22], len: usize, at: usize) -> Tries
-    ensures { λ r. ⌜ triesOf r ≡ onSecond command (take len first) (attemptAt command (now (run .entry)) at) ⌝ }
+// The second attempt, behind a first one of so many bytes that was NACKed.
+fn second_try(run: &[u8], command: bool, len: usize, at: usize, second: &mut [u8]) -> Tries
+    requires { ⌜ 22 ≤ length (now second) ⌝ }
+    ensures { λ r. ⌜ ((first : List ℕ) → triesOf r first (now (second .exit)) ≡ onSecond command (take len first) (attemptAt command (now (run .entry)) at)) ⌝ }
     ensures { λ r. ⌜ (r .len1 ≤ len) × (r .len2 ≤ headOf command + 17) ⌝ }
 {
-    let a = attempt_at(run, command, at);
+    let a = attempt_at(run, command, at, second);
     let standing = a.standing;
-    let second = a.bytes;
     match standing {
         Standing::Taken => Tries {
-            first,
             len1: len,
-            second,
             len2: a.len,
             next: a.next,
             tried: Tried::Twice,
@@ -226,24 +216,28 @@ fn second_try(run: &[u8], command: bool, first: [u8; 22], len: usize, at: usize)
     }
 }
 
-// One attempt at a command or reply, or two where the first was NACKed.
-pub(crate) fn tries_at(run: &[u8], command: bool, at: usize) -> Tries
-    ensures { λ r. ⌜ triesOf r ≡ triesAt command (now (run .entry)) at ⌝ }
+// One attempt at a command or reply, or two where the first was NACKed, each into its own output.
+pub(crate) fn tries_at(
+    run: &[u8],
+    command: bool,
+    at: usize,
+    first: &mut [u8],
+    second: &mut [u8],
+) -> Tries
+    requires { ⌜ (22 ≤ length (now first)) × (22 ≤ length (now second)) ⌝ }
+    ensures { λ r. ⌜ triesOf r (now (first .exit)) (now (second .exit)) ≡ triesAt command (now (run .entry)) at ⌝ }
     ensures { λ r. ⌜ (r .len1 ≤ headOf command + 17) × (r .len2 ≤ headOf command + 17) ⌝ }
 {
-    let a = attempt_at(run, command, at);
+    let a = attempt_at(run, command, at, first);
     let standing = a.standing;
-    let bytes = a.bytes;
     match standing {
         Standing::Taken => Tries {
-            first: bytes,
             len1: a.len,
-            second: [0; 22],
             len2: 0,
             next: a.next,
             tried: Tried::Once,
         },
-        Standing::Nacked => second_try(run, command, bytes, a.len, a.next + 1),
+        Standing::Nacked => second_try(run, command, a.len, a.next + 1, second),
         Standing::Failed(why) => no_tries(why),
     }
 }

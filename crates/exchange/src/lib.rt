@@ -2,3 +2,4 @@
 pub mod attempt;
 pub mod judge;
 pub mod reply;
+pub mod telegram;

@@ -6,14 +6,14 @@ use answers::WriteAnswer;
 use answers::judge_answer;
 use answers::write_answer;
 use ebus::telegram::Reading;
-use ebus::telegram::Telegram;
+use exchange::telegram::Telegram;
 use refusal::put;
 ghost use mathlib.Core.Path.{_≡_};
 ghost use lib.ListN.{length};
 ghost use Prim.Native.Nat.{_≤_};
 ghost use Rattle.refusal.specs.Output.{fitting};
 ghost use Rattle.ebus.specs.Telegram.{telegramAt, headOf, checkRight, commandOutput, replyOutput};
-ghost use Rattle.ebus.specs.View.{telegramOf};
+ghost use Rattle.exchange.specs.View.{telegramOf};
 ghost use Rattle.exchange.specs.Data.{replyData};
 ghost use Rattle.exchange.specs.Exchange.{judged};
 ghost use Rattle.answers.specs.Answers.{telegramAnswer, partFor};
@@ -56,7 +56,7 @@ fn telegram_answer(x: Telegram) -> TelegramAnswer
 pub extern "C" fn moor_telegram_at(run: &[u8], command: bool, at: usize) -> TelegramAnswer
     ensures { λ r. ⌜ r ≡ telegramAnswer (telegramAt (headOf command) (now (run .entry)) at) ⌝ }
 {
-    telegram_answer(ebus::telegram::telegram_at(run, command, at))
+    telegram_answer(exchange::telegram::telegram_at(run, command, at))
 }
 
 // Whether the last byte is the check byte of those before it.

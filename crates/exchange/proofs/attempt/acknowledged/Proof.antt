@@ -1,11 +1,12 @@
 -- `exchange::attempt::acknowledged` meets its contract: each arm is what the acknowledge byte asks for.
 -- Assumes nothing.
-use mathlib.Core.Path.{_≡_, refl, sym, ap, _∙_}
+use mathlib.Core.Path.{sym, ap, _∙_}
 use native.Mathlib.Omega.{arith}
 use lib.ListN.{take}
-use borrow.Author.Needs.{needs}
 use Rattle.exchange.specs.Exchange.{onAnswer}
-use Rattle.exchange.specs.View.{answerOf}
+use Rattle.exchange.specs.View.{answerOf, attemptOf}
+use Rattle.exchange.specs.declared.attempt.Attempt.{Attempt as Held}
+use borrow.Author.Needs.{needs}
 use Rattle.exchange.proofs.attempt.acknowledged.Statement.{statement}
 use Rattle.exchange.proofs.attempt.acknowledged.Tie as tie
 
@@ -28,22 +29,19 @@ attempt-failed-requires : tie.Need-attempt-failed-requires
 attempt-failed-requires c κs = search needs
 
 returns : tie.Need-returns
-returns c =
-    let s = take (c .before .before .before .before .before .before .args .len) (c .before .before .before .before .before .before .args .bytes) in
+returns c = let s = take (c .before .before .before .before .before .before .before .args .len) (c .before .before .before .before .before .before .before .args .bytes .now) in
     let is = sym (c .before .before .before .before .answer-at .ensures) ∙ ap answerOf (c .before .before .answer .given .1) in
-    (c .settle .ensures .0 ∙ sym (ap (onAnswer s (c .before .before .before .before .before .before .args .check)) is), c .settle .ensures .1)
+    (c .settle .ensures .0 ∙ sym (ap (onAnswer s (c .before .before .before .before .before .before .before .args .check)) is), c .settle .ensures .1)
 
 returns-2 : tie.Need-returns-2
-returns-2 c =
-    let s = take (c .before .before .before .before .before .args .len) (c .before .before .before .before .before .args .bytes) in
+returns-2 c = let s = take (c .before .before .before .before .before .before .args .len) (c .before .before .before .before .before .before .args .bytes .now) in
     let is = sym (c .before .before .before .answer-at .ensures) ∙ ap answerOf (c .before .answer2 .given .1) in
-    (sym (ap (onAnswer s (c .before .before .before .before .before .args .check)) is), omega arith)
+    (sym (ap (onAnswer s (c .before .before .before .before .before .before .args .check)) is), omega arith)
 
 returns-3 : tie.Need-returns-3
-returns-3 c =
-    let s = take (c .before .before .before .before .before .before .args .len) (c .before .before .before .before .before .before .args .bytes) in
+returns-3 c = let s = take (c .before .before .before .before .before .before .before .args .len) (c .before .before .before .before .before .before .before .args .bytes .now) in
     let is = sym (c .before .before .before .before .answer-at .ensures) ∙ ap answerOf (c .before .before .answer3 .given .1) in
-    (c .attempt-failed .ensures .0 ∙ sym (ap (onAnswer s (c .before .before .before .before .before .before .args .check)) is), omega (arith, c .attempt-failed .ensures .1))
+    (ap (λ (a : Held). attemptOf a (c .before .before .before .before .before .before .before .args .bytes .now)) (c .attempt-failed .ensures) ∙ sym (ap (onAnswer s (c .before .before .before .before .before .before .before .args .check)) is), omega (arith, ap (λ (a : Held). a .len) (c .attempt-failed .ensures)))
 
 pub acknowledged-spec : {M : Type 1} → statement M
 acknowledged-spec =

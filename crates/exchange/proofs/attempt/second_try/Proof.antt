@@ -1,12 +1,14 @@
 -- `exchange::attempt::second_try` meets its contract: each arm is what the second attempt asks for.
 -- Assumes nothing.
-use mathlib.Core.Path.{_≡_, refl, sym, ap, _∙_}
+use mathlib.Core.Path.{sym, ap, _∙_}
+use Prim.Native.Nat.{ℕ}
 use native.Mathlib.Omega.{arith}
-use lib.ListN.{length, take}
-use borrow.Author.Needs.{needs}
+use lib.ListN.{take}
 use Rattle.refusal.specs.Number.{at-place}
-use Rattle.exchange.specs.Exchange.{Attempt, nacked, neither, onFirst, onSecond, attemptAt, triesAt}
-use Rattle.exchange.specs.View.{viewedAttempt}
+use Rattle.exchange.specs.Exchange.{neither, onSecond}
+use Rattle.exchange.specs.View.{viewedAttempt, triesOf}
+use Rattle.exchange.specs.declared.attempt.Tries.{Tries as HeldTries}
+use borrow.Author.Needs.{needs}
 use Rattle.exchange.proofs.attempt.second_try.Statement.{statement}
 use Rattle.exchange.proofs.attempt.second_try.Tie as tie
 
@@ -31,29 +33,38 @@ enum-known-standing c = search needs
 no-tries-requires-2 : tie.Need-no-tries-requires-2
 no-tries-requires-2 c κs = search needs
 
+same-length : tie.Need-same-length
+same-length c = search needs
+
 returns : tie.Need-returns
-returns c =
-    let command = c .before .before .before .before .before .args .command in
-    let a = c .before .before .before .attempt-at .result in
-    let is = sym (c .before .before .before .attempt-at .ensures .0) ∙ ap (viewedAttempt a) (c .enum-told .given .1) in
-    (sym (ap (onSecond command (take (c .before .before .before .before .before .args .len) (c .before .before .before .before .before .args .first))) is), (omega arith, c .before .before .before .attempt-at .ensures .1))
+returns c = let command = c .before .before .before .before .before .before .before .before .args .command in
+    let a = c .before .before .before .before .attempt-at .result in
+    let held = c .before .before .before .before .attempt-at .last .1 .1 .1 .0 in
+    let is = sym (c .before .before .before .before .attempt-at .ensures .0) ∙ ap (viewedAttempt held a) (c .enum-told .given .1) in
+    (λ first. sym (ap (onSecond command (take (c .before .before .before .before .before .before .before .before .args .len) first)) is), (omega arith, c .before .before .before .before .attempt-at .ensures .1))
+
+same-length-2 : tie.Need-same-length-2
+same-length-2 c = search needs
 
 returns-2 : tie.Need-returns-2
-returns-2 c =
-    let command = c .before .before .before .before .before .before .before .args .command in
-    let a = c .before .before .before .before .before .attempt-at .result in
-    let is = sym (c .before .before .before .before .before .attempt-at .ensures .0) ∙ ap (viewedAttempt a) (c .before .before .enum-told2 .given .1) in (
-      c .no-tries .ensures .0 ∙ ap (λ k. neither (at-place k (a .next))) (c .before .nacked-twice .ensures) ∙ sym (ap (onSecond command (take (c .before .before .before .before .before .before .before .args .len) (c .before .before .before .before .before .before .before .args .first))) is),
-      (omega (arith, c .no-tries .ensures .1 .0), omega (arith, c .no-tries .ensures .1 .1)),
+returns-2 c = let command = c .before .before .before .before .before .before .before .before .before .before .args .command in
+    let a = c .before .before .before .before .before .before .attempt-at .result in
+    let held = c .before .before .before .before .before .before .attempt-at .last .1 .1 .1 .0 in
+    let is = sym (c .before .before .before .before .before .before .attempt-at .ensures .0) ∙ ap (viewedAttempt held a) (c .before .before .enum-told2 .given .1) in (
+      λ first. ap (λ (t : HeldTries). triesOf t first held) (c .no-tries .ensures) ∙ ap (λ (k : ℕ). neither (at-place k (a .next))) (c .before .nacked-twice .ensures) ∙ sym (ap (onSecond command (take (c .before .before .before .before .before .before .before .before .before .before .args .len) first)) is),
+      (omega (arith, ap (λ (t : HeldTries). t .len1) (c .no-tries .ensures)), omega (arith, ap (λ (t : HeldTries). t .len2) (c .no-tries .ensures))),
     )
 
+same-length-3 : tie.Need-same-length-3
+same-length-3 c = search needs
+
 returns-3 : tie.Need-returns-3
-returns-3 c =
-    let command = c .before .before .before .before .before .before .before .args .command in
-    let a = c .before .before .before .before .before .attempt-at .result in
-    let is = sym (c .before .before .before .before .before .attempt-at .ensures .0) ∙ ap (viewedAttempt a) (c .before .before .standing .given .1) in (
-      c .no-tries2 .ensures .0 ∙ sym (ap (onSecond command (take (c .before .before .before .before .before .before .before .args .len) (c .before .before .before .before .before .before .before .args .first))) is),
-      (omega (arith, c .no-tries2 .ensures .1 .0), omega (arith, c .no-tries2 .ensures .1 .1)),
+returns-3 c = let command = c .before .before .before .before .before .before .before .before .before .before .args .command in
+    let a = c .before .before .before .before .before .before .attempt-at .result in
+    let held = c .before .before .before .before .before .before .attempt-at .last .1 .1 .1 .0 in
+    let is = sym (c .before .before .before .before .before .before .attempt-at .ensures .0) ∙ ap (viewedAttempt held a) (c .before .before .standing .given .1) in (
+      λ first. ap (λ (t : HeldTries). triesOf t first held) (c .no-tries2 .ensures) ∙ sym (ap (onSecond command (take (c .before .before .before .before .before .before .before .before .before .before .args .len) first)) is),
+      (omega (arith, ap (λ (t : HeldTries). t .len1) (c .no-tries2 .ensures)), omega (arith, ap (λ (t : HeldTries). t .len2) (c .no-tries2 .ensures))),
     )
 
 pub second-try-spec : {M : Type 1} → statement M
@@ -67,6 +78,9 @@ second-try-spec =
     no-tries-requires
     enum-known-standing
     no-tries-requires-2
+    same-length
     returns
+    same-length-2
     returns-2
+    same-length-3
     returns-3)

@@ -1,6 +1,6 @@
 -- `gateway::telegrams::telegram_answer` meets its contract: the bytes read are copied over zeros.
 -- Assumes nothing.
-use Rattle.ebus.specs.declared.telegram.Telegram.{Telegram}
+use Rattle.exchange.specs.declared.telegram.Telegram.{Telegram}
 use Rattle.answers.specs.declared.TelegramAnswer.{TelegramAnswer}
 use Rattle.refusal.specs.Output.{starting}
 use mathlib.Core.Path.{_≡_, sym, ap, _∙_}
@@ -10,12 +10,17 @@ use mathlib.Core.List.{List}
 use lib.ListN.{length, take, replicate}
 use lib.Seq.{length-take-le}
 use Rattle.refusal.proofs.Lists.{put-whole}
-use Rattle.ebus.specs.View.{viewed}
+use Rattle.exchange.specs.View.{viewedExtent}
 use Rattle.ebus.specs.declared.telegram.Reading.{Reading}
+use Rattle.ebus.specs.Telegram.{Telegram as Read}
 use Rattle.answers.specs.Answers.{telegramAnswer}
 use borrow.Author.Needs.{needs}
 use Rattle.gateway.proofs.telegrams.telegram_answer.Statement.{statement}
 use Rattle.gateway.proofs.telegrams.telegram_answer.Tie as tie
+
+-- a telegram by how its reading ended
+abbrev shown : Telegram → Reading → Read
+shown x k = viewedExtent (x .bytes) (record { len = x .len; last = x .last; next = x .next; reading = x .reading }) k
 
 -- a telegram that was read, of this length and with these bytes
 abbrev answer : Telegram → ℕ → List ℕ → TelegramAnswer
@@ -48,10 +53,10 @@ returns c = let x = c .before .before .before .before .before .before .before .a
     let filled = c .before .put .ensures ∙ put-whole (take (x .len) (x .bytes)) (replicate 22 0) (omega (arith, c .before .before .before .before .before .before .before .pre)) in
     ap (λ (l : List ℕ). answer x (x .len) l) filled
     ∙ ap (λ (k : ℕ). answer x k (starting (take (x .len) (x .bytes)) (replicate 22 0))) (sym n)
-    ∙ ap (λ (k : Reading). telegramAnswer (viewed x k)) (sym (c .before .before .before .before .before .enum-told .given .1))
+    ∙ ap (λ (k : Reading). telegramAnswer (shown x k)) (sym (c .before .before .before .before .before .enum-told .given .1))
 
 returns-2 : tie.Need-returns-2
-returns-2 c = ap (λ (k : Reading). telegramAnswer (viewed (c .before .before .before .args .x) k)) (sym (c .before .reading .given .1))
+returns-2 c = ap (λ (k : Reading). telegramAnswer (shown (c .before .before .before .args .x) k)) (sym (c .before .reading .given .1))
 
 pub telegram-answer-spec : {M : Type 1} → statement M
 telegram-answer-spec =
