@@ -3,9 +3,7 @@
 -- Assumes nothing.
 use Prim.Native.Nat.{ℕ, _-_}
 use mathlib.Core.List.{List}
-use lib.Dec.{eqb}
 use lib.ListN.{length, replicate}
-use Rattle.refusal.specs.Choice.{pick}
 use Rattle.refusal.specs.Output.{starting}
 use Rattle.refusal.specs.declared.Written.{Written}
 use Rattle.refusal.specs.declared.Written.the-variants.{Length, Refused}
@@ -30,7 +28,6 @@ use Rattle.answers.specs.declared.WriteAnswer.{WriteAnswer}
 use Rattle.answers.specs.declared.LogicalAnswer.{LogicalAnswer}
 use Rattle.answers.specs.declared.TelegramAnswer.{TelegramAnswer}
 use Rattle.answers.specs.declared.JudgeAnswer.{JudgeAnswer}
-use Rattle.answers.specs.declared.PartAnswer.{PartAnswer}
 use Rattle.answers.specs.declared.RequestAnswer.{RequestAnswer}
 use Rattle.answers.specs.declared.FrameAnswer.{FrameAnswer}
 use Rattle.answers.specs.declared.ScanAnswer.{ScanAnswer}
@@ -68,10 +65,6 @@ judgeAnswer (Accepted kind commands replies n) =
     record { number = 0; kind = kindNumber kind; «command_attempts» = commands; «reply_attempts» = replies; place = 0; read = n }
 judgeAnswer (Rejected why) =
     record { number = why .number; kind = 0; «command_attempts» = 0; «reply_attempts» = 0; place = why .place; read = 0 }
-
--- n bytes of data behind LEN in the buffer of an attempt; without data "it is the empty start of the first"
-abbrev pub partFor : ℕ → ℕ → PartAnswer
-partFor n attempt = pick (eqb n 0) (record { attempt = 1; start = 0; length = n }) (record { attempt = attempt; start = 1; length = n })
 
 -- a request and an answer have the number of their subcommand
 abbrev pub requestNumber : Request → ℕ

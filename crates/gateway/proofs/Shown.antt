@@ -1,76 +1,84 @@
 -- The part that stands for a reply's data shows the data.
 -- Assumes nothing.
 use mathlib.Core.Path.{_≡_, refl, sym, ap, _∙_, subst}
-use mathlib.Core.Logic.{⊎-elim}
 use mathlib.Core.Bool.{Bool, true, false}
 use mathlib.Core.List.{List, []}
-use Prim.Native.Nat.{ℕ}
-use lib.Dec.{eqb}
-use lib.ListN.{length, take, drop}
-use borrow.Author.Tests.{eq-eqb, ne-eqb}
+use Prim.Native.Nat.{ℕ, _+_, _≤_, _<_}
+use native.Mathlib.Omega.{arith}
+use lib.Dec.{eqb, leb}
+use lib.ListN.{length, getD, take, drop}
+use borrow.Author.Tests.{le-leb, lt-leb, eq-eqb, ne-eqb}
 use Rattle.refusal.specs.Choice.{pick}
-use Rattle.refusal.proofs.Cases.{same-or-not}
+use Rattle.ebus.specs.Telegram.{longest}
 use Rattle.exchange.specs.Data.{dataPart, replyData}
-use Rattle.exchange.proofs.Data.{data-part, no-data}
-use Rattle.answers.specs.Answers.{partFor}
-use Rattle.gateway.specs.Lent.{shown, Shows}
 use Rattle.answers.specs.declared.PartAnswer.{PartAnswer}
+use Rattle.gateway.specs.Lent.{holdsData, emptyStart, partIn, partOf, shown, Shows}
 
-module _ (first second : List ℕ) (attempt : ℕ) where
-  of-first : attempt ≡ 1 → replyData first second attempt ≡ dataPart first
-  unfolding replyData
-  of-first e = simp (eq-eqb _ _ e)
+-- ---- a buffer
 
-  of-second : (attempt ≡ 1 → ⊥) → attempt ≡ 2 → replyData first second attempt ≡ dataPart second
-  unfolding replyData
-  of-second n e = simp (ne-eqb _ _ n, eq-eqb _ _ e)
+module _ (buffer : List ℕ) where
+  abbrev size : ℕ
+  size = getD buffer 0 0
 
-  of-neither : (attempt ≡ 1 → ⊥) → (attempt ≡ 2 → ⊥) → replyData first second attempt ≡ []
-  unfolding replyData
-  of-neither n m = simp (ne-eqb _ _ n, ne-eqb _ _ m)
+  pub holds : 1 ≤ length buffer → size ≤ longest → 1 + size ≤ length buffer → holdsData buffer ≡ true
+  unfolding holdsData
+  holds some short within = simp (le-leb _ _ some, le-leb _ _ short, le-leb _ _ within)
 
-  -- the buffer that an attempt names
-  abbrev buffer : List ℕ
-  buffer = pick (eqb attempt 2) second first
+  pub holds-empty : length buffer < 1 → holdsData buffer ≡ false
+  unfolding holdsData
+  holds-empty none = simp (lt-leb _ _ none)
 
-  -- data that is a buffer's part is the bytes behind its LEN
-  behind : (from d : List ℕ) → buffer ≡ from → d ≡ dataPart from → take (length d) (drop 1 buffer) ≡ d
-  behind from d b e =
-      ap (λ (l : List ℕ). take (length d) (drop 1 l)) b
-      ∙ ap (λ (k : List ℕ). take (length k) (drop 1 from)) e
-      ∙ sym (data-part from .0)
-      ∙ sym e
+  pub holds-over : 1 ≤ length buffer → longest < size → holdsData buffer ≡ false
+  unfolding holdsData
+  holds-over some over = simp (le-leb _ _ some, lt-leb _ _ over)
 
-  some-data : (length (replyData first second attempt) ≡ 0 → ⊥)
-      → take (length (replyData first second attempt)) (drop 1 buffer) ≡ replyData first second attempt
-  some-data some =
-      ⊎-elim
-      (λ e.
-      behind first (replyData first second attempt) (ap (λ (k : ℕ). pick (eqb k 2) second first) e) (of-first e))
-      (λ n.
-      ⊎-elim
-      (λ e. behind second (replyData first second attempt) (ap (λ (k : ℕ). pick (eqb k 2) second first) e) (of-second n e))
-      (λ m. absurd (some (ap length (of-neither n m))))
-      (same-or-not attempt 2))
-      (same-or-not attempt 1)
+  pub holds-past : 1 ≤ length buffer → size ≤ longest → length buffer < 1 + size → holdsData buffer ≡ false
+  unfolding holdsData
+  holds-past some short past = simp (le-leb _ _ some, le-leb _ _ short, lt-leb _ _ past)
 
-  -- the part that is picked where there is no data, and where there is some
-  abbrev picked : Bool → PartAnswer
-  picked none =
-      pick none
-      (record { attempt = 1; start = 0; length = length (replyData first second attempt) })
-      (record { attempt = attempt; start = 1; length = length (replyData first second attempt) })
+  -- test by test as the data part is picked
+  by-tests : (some short within : Bool)
+      → pick some (pick short (pick within (take size (drop 1 buffer)) []) []) []
+      ≡ pick (pick some (pick short within false) false) (take size (drop 1 buffer)) []
+  by-tests true true true = refl
+  by-tests true true false = refl
+  by-tests true false within = refl
+  by-tests false short within = refl
 
-  -- no data: the empty start of the first
-  pub shows-none : (r : PartAnswer) → length (replyData first second attempt) ≡ 0 → r ≡ picked true → Shows first second attempt r
-  shows-none r none e = record {
-    part = e ∙ ap picked (sym (eq-eqb _ _ none));
-    bytes = ap (shown first second) e ∙ ap (λ (k : ℕ). take k first) none ∙ sym (no-data (replyData first second attempt) none);
+  data-by : dataPart buffer ≡ pick (holdsData buffer) (take size (drop 1 buffer)) []
+  unfolding dataPart holdsData
+  data-by = by-tests (leb 1 (length buffer)) (leb size longest) (leb (1 + size) (length buffer))
+
+-- ---- both buffers
+
+module _ (first second : List ℕ) where
+  in-first : (t : Bool) → shown first second (pick t (record { attempt = 1; start = 1; length = getD first 0 0 }) emptyStart)
+      ≡ pick t (take (getD first 0 0) (drop 1 first)) []
+  in-first true = refl
+  in-first false = refl
+
+  in-second : (t : Bool) → shown first second (pick t (record { attempt = 2; start = 1; length = getD second 0 0 }) emptyStart)
+      ≡ pick t (take (getD second 0 0) (drop 1 second)) []
+  in-second true = refl
+  in-second false = refl
+
+  pub shows-first : (attempt : ℕ) (r : PartAnswer) → attempt ≡ 1 → r ≡ partIn 1 first → Shows first second attempt r
+  unfolding partOf replyData
+  shows-first attempt r one is = record {
+    part = is ∙ simp (eq-eqb _ _ one);
+    bytes = ap (shown first second) is ∙ in-first (holdsData first) ∙ sym (data-by first) ∙ simp (eq-eqb _ _ one);
   }
 
-  -- data behind LEN
-  pub shows-some : (r : PartAnswer) → (length (replyData first second attempt) ≡ 0 → ⊥) → r ≡ picked false → Shows first second attempt r
-  shows-some r some e = record {
-    part = e ∙ ap picked (sym (ne-eqb _ _ some));
-    bytes = ap (shown first second) e ∙ some-data some;
+  pub shows-second : (attempt : ℕ) (r : PartAnswer) → (attempt ≡ 1 → ⊥) → attempt ≡ 2 → r ≡ partIn 2 second → Shows first second attempt r
+  unfolding partOf replyData
+  shows-second attempt r other two is = record {
+    part = is ∙ simp (ne-eqb _ _ other, eq-eqb _ _ two);
+    bytes = ap (shown first second) is ∙ in-second (holdsData second) ∙ sym (data-by second) ∙ simp (ne-eqb _ _ other, eq-eqb _ _ two);
+  }
+
+  pub shows-neither : (attempt : ℕ) (r : PartAnswer) → (attempt ≡ 1 → ⊥) → (attempt ≡ 2 → ⊥) → r ≡ emptyStart → Shows first second attempt r
+  unfolding partOf replyData
+  shows-neither attempt r other another is = record {
+    part = is ∙ simp (ne-eqb _ _ other, ne-eqb _ _ another);
+    bytes = ap (shown first second) is ∙ simp (ne-eqb _ _ other, ne-eqb _ _ another);
   }

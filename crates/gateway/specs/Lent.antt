@@ -2,13 +2,15 @@
 -- the crates below, and only the answer is turned into numbers.
 -- Assumes nothing.
 use mathlib.Core.Path.{_≡_}
-use Prim.Native.Nat.{ℕ}
+use mathlib.Core.Bool.{Bool, false}
+use Prim.Native.Nat.{ℕ, _+_}
 use mathlib.Core.List.{List}
-use lib.Dec.{eqb}
-use lib.ListN.{length, take, drop}
+use lib.Dec.{eqb, leb}
+use lib.ListN.{length, getD, take, drop}
 use Rattle.refusal.specs.Choice.{pick}
 use Rattle.refusal.specs.Number.{subcommandWrong, at-place}
 use Rattle.refusal.specs.Output.{Output, refused, answer, left, starting}
+use Rattle.ebus.specs.Telegram.{longest}
 use Rattle.exchange.specs.Data.{replyData}
 use Rattle.exchange.specs.Exchange.{Outcome}
 use Rattle.exchange.specs.View.{answered, commandOf, firstOf, secondOf}
@@ -16,7 +18,7 @@ use Rattle.fastmodbus.specs.Writing.{writeRequest}
 use Rattle.fastmodbus.specs.declared.Request.the-variants.{Start, Continue}
 use Rattle.devices.specs.Calls.{Answering}
 use Rattle.devices.specs.WholeScan.{Scanning, serialsHeard}
-use Rattle.answers.specs.Answers.{writeAnswer, deviceAnswer, judgeAnswer, partFor, scanAnswer}
+use Rattle.answers.specs.Answers.{writeAnswer, deviceAnswer, judgeAnswer, scanAnswer}
 use Rattle.answers.specs.declared.WriteAnswer.{WriteAnswer}
 use Rattle.answers.specs.declared.JudgeAnswer.{JudgeAnswer}
 use Rattle.answers.specs.declared.PartAnswer.{PartAnswer}
@@ -41,14 +43,30 @@ pub record JudgesInto (o : Outcome) (r : JudgeAnswer) (command command′ first 
   pub first-buffer : first′ ≡ starting (firstOf o) first
   pub second-buffer : second′ ≡ starting (secondOf o) second
 
+-- whether a buffer holds LEN and the data behind it: not "an empty buffer, a LEN over 16 or data that would pass the
+-- buffer's end"
+unfoldable pub holdsData : List ℕ → Bool
+holdsData buffer =
+    pick (leb 1 (length buffer)) (pick (leb (getD buffer 0 0) longest) (leb (1 + getD buffer 0 0) (length buffer)) false) false
+
+-- "the empty start of the first"
+abbrev pub emptyStart : PartAnswer
+emptyStart = record { attempt = 1; start = 0; length = 0 }
+
+abbrev pub partIn : ℕ → List ℕ → PartAnswer
+partIn attempt buffer = pick (holdsData buffer) (record { attempt = attempt; start = 1; length = getD buffer 0 0 }) emptyStart
+
+-- "a part of whichever reply buffer was acknowledged"; not of "an attempt number other than 1 or 2"
+unfoldable pub partOf : List ℕ → List ℕ → ℕ → PartAnswer
+partOf first second attempt = pick (eqb attempt 1) (partIn 1 first) (pick (eqb attempt 2) (partIn 2 second) emptyStart)
+
 -- the bytes that a part names
 abbrev pub shown : List ℕ → List ℕ → PartAnswer → List ℕ
 shown first second part = take (part .length) (drop (part .start) (pick (eqb (part .attempt) 2) second first))
 
--- "The reply's data is shown as a part of whichever reply buffer was acknowledged": which part it is, and that its bytes
--- are the data
+-- the reply's data: which part it is, and that its bytes are the data
 pub record Shows (first second : List ℕ) (attempt : ℕ) (r : PartAnswer) : Type 0 where
-  pub part : r ≡ partFor (length (replyData first second attempt)) attempt
+  pub part : r ≡ partOf first second attempt
   pub bytes : shown first second r ≡ replyData first second attempt
 
 -- a call to the devices: its answer, and the contents of the buffer and the marks

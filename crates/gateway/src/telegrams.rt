@@ -5,6 +5,7 @@ use answers::TelegramAnswer;
 use answers::WriteAnswer;
 use answers::judge_answer;
 use answers::write_answer;
+use ebus::telegram::LONGEST;
 use ebus::telegram::Reading;
 use exchange::telegram::Telegram;
 use refusal::put;
@@ -14,10 +15,9 @@ ghost use Prim.Native.Nat.{_≤_};
 ghost use Rattle.refusal.specs.Output.{fitting};
 ghost use Rattle.ebus.specs.Telegram.{telegramAt, headOf, checkRight, commandOutput, replyOutput};
 ghost use Rattle.exchange.specs.View.{telegramOf};
-ghost use Rattle.exchange.specs.Data.{replyData};
 ghost use Rattle.exchange.specs.Exchange.{judged};
-ghost use Rattle.answers.specs.Answers.{telegramAnswer, partFor};
-ghost use Rattle.gateway.specs.Lent.{Writes, JudgesInto, Shows};
+ghost use Rattle.answers.specs.Answers.{telegramAnswer};
+ghost use Rattle.gateway.specs.Lent.{Writes, JudgesInto, Shows, emptyStart, partIn};
 
 // A telegram as far as it was read, as an answer.
 fn telegram_answer(x: Telegram) -> TelegramAnswer
@@ -103,26 +103,50 @@ pub extern "C" fn moor_judge(
     judge_answer(exchange::judge::judge(run, command, reply_1, reply_2))
 }
 
-// Where the data of the reply attempt asked for stands, in the buffers that the judge filled.
-#[no_mangle]
-pub extern "C" fn moor_reply_data<'a>(
-    reply_1: &'a [u8],
-    reply_2: &'a [u8],
-    attempt: u8,
-) -> PartAnswer
-    ensures { λ r. ⌜ Shows (now («reply_1» .entry)) (now («reply_2» .entry)) attempt r ⌝ }
+// The empty start of the first buffer.
+fn empty_start() -> PartAnswer
+    ensures { λ r. ⌜ r ≡ emptyStart ⌝ }
 {
-    let length = exchange::reply::reply_data(reply_1, reply_2, attempt).len();
-    if length == 0 {
-        return PartAnswer {
-            attempt: 1,
-            start: 0,
-            length,
-        };
+    PartAnswer {
+        attempt: 1,
+        start: 0,
+        length: 0,
+    }
+}
+
+// Where the data stands in the buffer of an attempt.
+fn part_in(attempt: u8, buffer: &[u8]) -> PartAnswer
+    ensures { λ r. ⌜ r ≡ partIn attempt (now (buffer .entry)) ⌝ }
+{
+    if buffer.len() < 1 {
+        return empty_start();
+    }
+    let n = buffer[0];
+    if LONGEST < n {
+        return empty_start();
+    }
+    let length = n as usize;
+    if buffer.len() < 1 + length {
+        return empty_start();
     }
     PartAnswer {
         attempt,
         start: 1,
         length,
     }
+}
+
+// Where the data of the reply attempt asked for stands, in the buffers that the judge filled: C cannot
+// take a part of a slice.
+#[no_mangle]
+pub extern "C" fn moor_reply_data(reply_1: &[u8], reply_2: &[u8], attempt: u8) -> PartAnswer
+    ensures { λ r. ⌜ Shows (now («reply_1» .entry)) (now («reply_2» .entry)) attempt r ⌝ }
+{
+    if attempt == 1 {
+        return part_in(1, reply_1);
+    }
+    if attempt == 2 {
+        return part_in(2, reply_2);
+    }
+    empty_start()
 }

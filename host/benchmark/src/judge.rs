@@ -1,0 +1,120 @@
+//! The judge on recorded exchanges: the archive and the second implementation.
+//! Neither clears its buffers between calls.
+
+use std::hint::black_box;
+
+use moortinker::sys;
+use second::exchange;
+use second::Refusal;
+
+use crate::measure::{interleave, Candidate};
+use crate::report::{Case, OURS};
+
+/// The three buffers that a judge is lent.
+#[derive(Clone, Debug, Default, PartialEq)]
+struct Buffers {
+    command: [u8; sys::MOOR_COMMAND_ROOM],
+    reply_1: [u8; sys::MOOR_REPLY_ROOM],
+    reply_2: [u8; sys::MOOR_REPLY_ROOM],
+}
+
+type Answer = Result<exchange::Judged, Refusal>;
+
+/// Times the judge on exchanges of at least `size` raw bytes.
+pub fn judge(size: usize, runs: &[Vec<u8>]) -> Result<Case, String> {
+    compare(size, runs)?;
+    let (mut own, mut theirs) = (Buffers::default(), Buffers::default());
+    let mut candidates = [
+        Candidate::new(OURS, |passes| go_over(judge_ours, runs, &mut own, passes)),
+        Candidate::new("rust", |passes| {
+            go_over(judge_second, runs, &mut theirs, passes)
+        }),
+    ];
+    let timings = interleave(runs.len(), &mut candidates);
+    Ok(Case {
+        name: "judge",
+        size,
+        timings,
+    })
+}
+
+fn go_over<T>(
+    judge: fn(&[u8], &mut Buffers) -> T,
+    runs: &[Vec<u8>],
+    buffers: &mut Buffers,
+    passes: usize,
+) {
+    let judge = black_box(judge);
+    for _ in 0..passes {
+        for run in runs {
+            black_box(judge(run, black_box(buffers)));
+        }
+    }
+}
+
+fn judge_ours(run: &[u8], buffers: &mut Buffers) -> sys::Judged {
+    let Buffers {
+        command,
+        reply_1,
+        reply_2,
+    } = buffers;
+    // SAFETY: each pointer comes with the length of its own buffer, and the
+    // buffers are apart.
+    unsafe {
+        sys::moor_judge(
+            run.as_ptr(),
+            run.len(),
+            command.as_mut_ptr(),
+            command.len(),
+            reply_1.as_mut_ptr(),
+            reply_1.len(),
+            reply_2.as_mut_ptr(),
+            reply_2.len(),
+        )
+    }
+}
+
+fn judge_second(run: &[u8], buffers: &mut Buffers) -> Answer {
+    let Buffers {
+        command,
+        reply_1,
+        reply_2,
+    } = buffers;
+    exchange::judge(run, command, reply_1, reply_2)
+}
+
+/// Holds both to the same answers and buffers on the very exchanges to be
+/// timed, each of which must be accepted and of the size named.
+fn compare(size: usize, runs: &[Vec<u8>]) -> Result<(), String> {
+    let (mut own, mut theirs) = (Buffers::default(), Buffers::default());
+    for run in runs {
+        let answer = judge_ours(run, &mut own);
+        let theirs_answer = judge_second(run, &mut theirs);
+        if theirs_answer != Ok(plain(&answer)?) || own != theirs {
+            return Err(format!(
+                "judge of {run:02X?}: {OURS} {answer:?} {own:?}, rust {theirs_answer:?} {theirs:?}"
+            ));
+        }
+        if run.len() < size {
+            return Err(format!("judge: {run:02X?} is below {size} bytes"));
+        }
+    }
+    Ok(())
+}
+
+/// An accepted answer in the second implementation's words.
+fn plain(answer: &sys::Judged) -> Result<exchange::Judged, String> {
+    use second::ebus::Kind;
+    let kind = match (answer.number, answer.kind) {
+        (sys::MOOR_ACCEPTED, sys::MOOR_BROADCAST) => Kind::Broadcast,
+        (sys::MOOR_ACCEPTED, sys::MOOR_INITIATOR_INITIATOR) => Kind::InitiatorInitiator,
+        (sys::MOOR_ACCEPTED, sys::MOOR_INITIATOR_TARGET) => Kind::InitiatorTarget,
+        _ => return Err(format!("judge: {OURS} gives {answer:?}")),
+    };
+    Ok(exchange::Judged {
+        kind,
+        command_attempts: answer.command_attempts,
+        reply_attempts: answer.reply_attempts,
+        read: answer.read,
+    })
+}

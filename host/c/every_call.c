@@ -1,0 +1,923 @@
+/*
+ * every_call.c - every function of moortinker.h on the worked examples of
+ * document 01 (W1 to W14) and on its edges.
+ *
+ * Each call prints a line with what it gave. What it gave is compared with
+ * what document 01 says; a difference is printed below the line. The last line
+ * counts both. Exit status 1 if anything differs.
+ */
+#include "moortinker.h"
+
+#include <stdio.h>
+#include <string.h>
+
+/* ---- The layout of the answers, as the Rust crate has it ----------------- */
+
+#define SIZE(type, size) _Static_assert(sizeof(type) == (size), #type)
+#define AT(type, field, place) \
+    _Static_assert(offsetof(type, field) == (place), #type "." #field)
+
+SIZE(moor_written, 24);
+AT(moor_written, number, 0);
+AT(moor_written, place, 8);
+AT(moor_written, length, 16);
+
+SIZE(moor_logical, 24);
+AT(moor_logical, number, 0);
+AT(moor_logical, byte, 1);
+AT(moor_logical, place, 8);
+AT(moor_logical, next, 16);
+
+SIZE(moor_telegram, 64);
+AT(moor_telegram, number, 0);
+AT(moor_telegram, place, 8);
+AT(moor_telegram, length, 16);
+AT(moor_telegram, last, 24);
+AT(moor_telegram, next, 32);
+AT(moor_telegram, bytes, 40);
+
+SIZE(moor_judged, 24);
+AT(moor_judged, number, 0);
+AT(moor_judged, kind, 1);
+AT(moor_judged, command_attempts, 2);
+AT(moor_judged, reply_attempts, 3);
+AT(moor_judged, place, 8);
+AT(moor_judged, read, 16);
+
+SIZE(moor_part, 24);
+AT(moor_part, attempt, 0);
+AT(moor_part, start, 8);
+AT(moor_part, length, 16);
+
+SIZE(moor_request_read, 16);
+AT(moor_request_read, number, 0);
+AT(moor_request_read, request, 1);
+AT(moor_request_read, place, 8);
+
+SIZE(moor_answer_read, 16);
+AT(moor_answer_read, number, 0);
+AT(moor_answer_read, answer, 1);
+AT(moor_answer_read, address, 2);
+AT(moor_answer_read, serial, 4);
+AT(moor_answer_read, place, 8);
+
+SIZE(moor_decided, 16);
+AT(moor_decided, key, 0);
+AT(moor_decided, dominant, 8);
+
+SIZE(moor_scanned, 32);
+AT(moor_scanned, number, 0);
+AT(moor_scanned, end, 1);
+AT(moor_scanned, place, 8);
+AT(moor_scanned, requests, 16);
+AT(moor_scanned, found, 24);
+
+/* ---- Counting ------------------------------------------------------------ */
+
+static unsigned held;
+static unsigned differ;
+
+#define EXPECT(condition) expect((condition), #condition, __LINE__)
+
+static void expect(bool holds, const char *condition, int line)
+{
+    if (holds) {
+        held++;
+        return;
+    }
+    differ++;
+    printf("    differs, line %d: %s\n", line, condition);
+}
+
+/* ---- Bytes handed in, lent and printed ----------------------------------- */
+
+typedef struct {
+    const uint8_t *start;
+    size_t length;
+} bytes;
+
+#define BYTES(...) \
+    ((bytes){(const uint8_t[]){__VA_ARGS__}, sizeof((const uint8_t[]){__VA_ARGS__})})
+
+/* No bytes: a null pointer with length 0. */
+static const bytes none = {NULL, 0};
+
+/* What lent outputs hold before a call. */
+#define FILL 0x5A
+
+/* Lent outputs: calls are lent the first bytes, and must keep to them. */
+#define MOST 64
+static uint8_t out[MOST];
+
+static void fill(uint8_t *buffer)
+{
+    memset(buffer, FILL, MOST);
+}
+
+/* Whether a buffer starts with these bytes and is as it was behind them. */
+static bool starts(const uint8_t *buffer, bytes with)
+{
+    for (size_t i = 0; i < MOST; i++) {
+        if (buffer[i] != (i < with.length ? with.start[i] : FILL))
+            return false;
+    }
+    return true;
+}
+
+static void print_bytes(bytes shown)
+{
+    for (size_t i = 0; i < shown.length; i++)
+        printf(" %02X", shown.start[i]);
+}
+
+static void print_call(const char *name, bytes input)
+{
+    printf("%s", name);
+    print_bytes(input);
+    printf(" -> ");
+}
+
+static void print_refused(uint8_t number, size_t place)
+{
+    printf("refused %u at %zu\n", number, place);
+}
+
+/* What a call that writes must give. */
+typedef struct {
+    uint8_t number;
+    size_t place;
+    bytes wrote;
+} outcome;
+
+#define WROTE(...) ((outcome){MOOR_ACCEPTED, 0, BYTES(__VA_ARGS__)})
+#define REFUSED(number, place) ((outcome){(number), (place), none})
+static const outcome nothing_written = {MOOR_ACCEPTED, 0, {NULL, 0}};
+
+/* Prints what a call wrote to `out`, and holds it to what it must give. */
+static void written(moor_written got, outcome must)
+{
+    if (got.number != MOOR_ACCEPTED) {
+        print_refused(got.number, got.place);
+    } else {
+        printf("%zu bytes:", got.length);
+        print_bytes((bytes){out, got.length < MOST ? got.length : MOST});
+        printf("\n");
+    }
+    EXPECT(got.number == must.number);
+    EXPECT(got.place == must.place);
+    EXPECT(got.length == must.wrote.length);
+    EXPECT(starts(out, must.wrote));
+}
+
+/* ---- Checks -------------------------------------------------------------- */
+
+static void ebus_check(bytes logical, uint8_t must)
+{
+    uint8_t got = moor_ebus_check(logical.start, logical.length);
+    print_call("moor_ebus_check", logical);
+    printf("%02X\n", got);
+    EXPECT(got == must);
+}
+
+static void modbus_check(bytes input, uint16_t must)
+{
+    uint16_t got = moor_modbus_check(input.start, input.length);
+    print_call("moor_modbus_check", input);
+    printf("%04X\n", got);
+    EXPECT(got == must);
+}
+
+static void checks(void)
+{
+    ebus_check(BYTES(0x10, 0x08, 0xB5, 0x11, 0x01, 0x01), 0x89); /* W1 */
+    ebus_check(BYTES(0xAA), 0xEC);                               /* W2 */
+    ebus_check(BYTES(0xA9), 0xED);                               /* W3 */
+    ebus_check(none, 0x00);                                      /* W4 */
+    modbus_check(BYTES(0xFD, 0x46, 0x01), 0x9013);
+    modbus_check(none, 0xFFFF);
+}
+
+/* ---- Addresses ----------------------------------------------------------- */
+
+static void address(uint8_t asked, bool initiator, bool reserved, uint8_t kind)
+{
+    bool got_initiator = moor_is_initiator(asked);
+    printf("moor_is_initiator %02X -> %s\n", asked, got_initiator ? "yes" : "no");
+    EXPECT(got_initiator == initiator);
+    bool got_reserved = moor_is_reserved(asked);
+    printf("moor_is_reserved %02X -> %s\n", asked, got_reserved ? "yes" : "no");
+    EXPECT(got_reserved == reserved);
+    uint8_t got_kind = moor_kind(asked);
+    printf("moor_kind %02X -> %u\n", asked, got_kind);
+    EXPECT(got_kind == kind);
+}
+
+static void addresses(void)
+{
+    address(0xFE, false, false, MOOR_BROADCAST);          /* W6 */
+    address(0x10, true, false, MOOR_INITIATOR_INITIATOR); /* W6 */
+    address(0x08, false, false, MOOR_INITIATOR_TARGET);   /* W6 */
+    address(0xFF, true, false, MOOR_INITIATOR_INITIATOR);
+    address(0xA8, false, false, MOOR_INITIATOR_TARGET);
+    address(0xA9, false, true, MOOR_INITIATOR_TARGET);
+    address(0xAA, false, true, MOOR_INITIATOR_TARGET);
+    address(0xAB, false, false, MOOR_INITIATOR_TARGET);
+    unsigned initiators = 0;
+    for (unsigned i = 0; i < 256; i++)
+        initiators += moor_is_initiator((uint8_t)i);
+    printf("moor_is_initiator, each of 256 -> %u\n", initiators);
+    EXPECT(initiators == 25);
+}
+
+/* ---- Escapes ------------------------------------------------------------- */
+
+static void logical_at(bytes run, size_t at, moor_logical must)
+{
+    moor_logical got = moor_logical_at(run.start, run.length, at);
+    print_call("moor_logical_at", run);
+    printf("at %zu: ", at);
+    if (got.number != MOOR_ACCEPTED)
+        print_refused(got.number, got.place);
+    else
+        printf("%02X, next %zu\n", got.byte, got.next);
+    EXPECT(got.number == must.number);
+    EXPECT(got.byte == must.byte);
+    EXPECT(got.place == must.place);
+    EXPECT(got.next == must.next);
+}
+
+#define MEANT(value, behind) ((moor_logical){.byte = (value), .next = (behind)})
+#define NOT_MEANT(why, where) ((moor_logical){.number = (why), .place = (where)})
+
+static void logical_bytes(void)
+{
+    bytes run = BYTES(0x10, 0xA9, 0x00, 0xA9, 0x01, 0xAA, 0xA9, 0x55, 0xA9);
+    logical_at(run, 0, MEANT(0x10, 1));
+    logical_at(run, 1, MEANT(0xA9, 3));
+    logical_at(run, 3, MEANT(0xAA, 5));
+    logical_at(run, 5, NOT_MEANT(MOOR_SYN_EARLY, 5));
+    logical_at(run, 6, NOT_MEANT(MOOR_ESCAPE_WRONG, 7));
+    logical_at(run, 8, NOT_MEANT(MOOR_RUN_ENDED, 9));
+    logical_at(run, 9, NOT_MEANT(MOOR_RUN_ENDED, 9));
+    logical_at(run, SIZE_MAX, NOT_MEANT(MOOR_RUN_ENDED, 9));
+    logical_at(BYTES(0xA9, 0xAA), 0, NOT_MEANT(MOOR_SYN_EARLY, 1));
+    logical_at(none, 0, NOT_MEANT(MOOR_RUN_ENDED, 0));
+}
+
+static void expand(bytes logical, size_t room, outcome must)
+{
+    fill(out);
+    moor_written got = moor_expand(logical.start, logical.length, out, room);
+    print_call("moor_expand", logical);
+    written(got, must);
+}
+
+static void undo(bytes raw, size_t room, outcome must)
+{
+    fill(out);
+    moor_written got = moor_undo(raw.start, raw.length, out, room);
+    print_call("moor_undo", raw);
+    written(got, must);
+}
+
+static void escapes(void)
+{
+    expand(BYTES(0xA9, 0xAA), MOST, WROTE(0xA9, 0x00, 0xA9, 0x01)); /* W5 */
+    expand(BYTES(0xA9, 0xAA), 4, WROTE(0xA9, 0x00, 0xA9, 0x01));
+    expand(BYTES(0xA9, 0xAA), 3, REFUSED(MOOR_OUTPUT_SHORT, 0));
+    expand(none, 0, nothing_written);
+    undo(BYTES(0xA9, 0x00, 0xA9, 0x01), 2, WROTE(0xA9, 0xAA));
+    undo(BYTES(0xA9, 0x00, 0xA9, 0x01), 1, REFUSED(MOOR_OUTPUT_SHORT, 0));
+    undo(BYTES(0x10, 0xA9), MOST, REFUSED(MOOR_RUN_ENDED, 2));
+    undo(BYTES(0x10, 0xA9, 0x02), 0, REFUSED(MOOR_ESCAPE_WRONG, 2));
+    undo(BYTES(0x10, 0xA9, 0xAA), 0, REFUSED(MOOR_SYN_EARLY, 2));
+    undo(BYTES(0x10, 0xAA), MOST, REFUSED(MOOR_SYN_EARLY, 1));
+    undo(none, 0, nothing_written);
+}
+
+/* ---- Telegrams ----------------------------------------------------------- */
+
+/* What reading a telegram must give. */
+typedef struct {
+    uint8_t number;
+    size_t place;
+    bytes read;
+    size_t last;
+    size_t next;
+} telegram;
+
+#define READ(last, next, ...) ((telegram){MOOR_ACCEPTED, 0, BYTES(__VA_ARGS__), (last), (next)})
+#define UNREAD(number, place) ((telegram){(number), (place), none, 0, 0})
+
+static bool telegram_bytes(moor_telegram got, bytes must)
+{
+    for (size_t i = 0; i < sizeof got.bytes; i++) {
+        if (got.bytes[i] != (i < must.length ? must.start[i] : 0))
+            return false;
+    }
+    return true;
+}
+
+static void telegram_at(bytes run, bool command, size_t at, telegram must)
+{
+    moor_telegram got = moor_telegram_at(run.start, run.length, command, at);
+    print_call("moor_telegram_at", run);
+    printf("%s at %zu: ", command ? "command" : "reply", at);
+    if (got.number != MOOR_ACCEPTED) {
+        print_refused(got.number, got.place);
+    } else {
+        printf("%zu bytes:", got.length);
+        print_bytes((bytes){got.bytes, got.length <= 22 ? got.length : 22});
+        printf(", check at %zu, next %zu\n", got.last, got.next);
+    }
+    EXPECT(got.number == must.number);
+    EXPECT(got.place == must.place);
+    EXPECT(got.length == must.read.length);
+    EXPECT(got.last == must.last);
+    EXPECT(got.next == must.next);
+    EXPECT(telegram_bytes(got, must.read));
+}
+
+static void commands_read(void)
+{
+    telegram_at(BYTES(0x10, 0x08, 0xB5, 0x11, 0x01, 0x01, 0x89, 0x00), true, 0,
+                READ(6, 7, 0x10, 0x08, 0xB5, 0x11, 0x01, 0x01, 0x89));
+    telegram_at(BYTES(0xAA, 0x10, 0x08, 0xB5, 0x11, 0x02, 0xA9, 0x00, 0xA9, 0x01, 0x57), true, 1,
+                READ(10, 11, 0x10, 0x08, 0xB5, 0x11, 0x02, 0xA9, 0xAA, 0x57));
+    telegram_at(none, true, 0, UNREAD(MOOR_RUN_ENDED, 0));
+    telegram_at(BYTES(0x10, 0x08, 0xB5, 0x11), true, 0, UNREAD(MOOR_RUN_ENDED, 4));
+    telegram_at(BYTES(0xA9, 0x55), true, 0, UNREAD(MOOR_ESCAPE_WRONG, 1));
+    telegram_at(BYTES(0x10, 0xAA), true, 0, UNREAD(MOOR_SYN_EARLY, 1));
+    telegram_at(BYTES(0x12, 0x08), true, 0, UNREAD(MOOR_SOURCE_WRONG, 0));
+    telegram_at(BYTES(0xA9, 0x00), true, 0, UNREAD(MOOR_SOURCE_WRONG, 0));
+    telegram_at(BYTES(0x10, 0xA9, 0x01), true, 0, UNREAD(MOOR_DESTINATION_WRONG, 1));
+    telegram_at(BYTES(0x10, 0x08, 0xB5, 0x11, 0x11), true, 0, UNREAD(MOOR_LENGTH_OVER, 4));
+}
+
+static void replies_read(void)
+{
+    telegram_at(BYTES(0x01, 0x2A, 0xB1), false, 0, READ(2, 3, 0x01, 0x2A, 0xB1));
+    telegram_at(BYTES(0x00, 0x00), false, 0, READ(1, 2, 0x00, 0x00));
+    telegram_at(BYTES(0x11), false, 0, UNREAD(MOOR_LENGTH_OVER, 0));
+    telegram_at(BYTES(0x01, 0x2A, 0xB1), false, 3, UNREAD(MOOR_RUN_ENDED, 3));
+}
+
+static void check_right(bytes telegram, bool must)
+{
+    bool got = moor_check_right(telegram.start, telegram.length);
+    print_call("moor_check_right", telegram);
+    printf("%s\n", got ? "yes" : "no");
+    EXPECT(got == must);
+}
+
+static void checks_of_telegrams(void)
+{
+    check_right(BYTES(0x10, 0x08, 0xB5, 0x11, 0x01, 0x01, 0x89), true);
+    check_right(BYTES(0x10, 0x08, 0xB5, 0x11, 0x01, 0x01, 0x88), false);
+    check_right(BYTES(0xAA, 0xEC), true);
+    check_right(BYTES(0x00), true);
+    check_right(none, false);
+}
+
+/* ---- Writing telegrams --------------------------------------------------- */
+
+static void write_command(uint8_t source, uint8_t destination, bytes data, size_t room,
+                          outcome must)
+{
+    fill(out);
+    moor_written got = moor_write_command(source, destination, 0xB5, 0x11, data.start,
+                                          data.length, out, room);
+    printf("moor_write_command %02X %02X B5 11", source, destination);
+    print_call(", data", data);
+    written(got, must);
+}
+
+static void write_reply(bytes data, size_t room, outcome must)
+{
+    fill(out);
+    moor_written got = moor_write_reply(data.start, data.length, out, room);
+    print_call("moor_write_reply", data);
+    written(got, must);
+}
+
+#define SIXTEEN 0, 1, 2, 3, 4, 5, 6, 7, 8, 9, 10, 11, 12, 13, 14, 15
+
+static void telegrams_written(void)
+{
+    bytes seventeen = BYTES(SIXTEEN, 16);
+    outcome command = WROTE(0x10, 0x08, 0xB5, 0x11, 0x01, 0x01, 0x89);
+    write_command(0x10, 0x08, BYTES(0x01), MOST, command);
+    write_command(0x10, 0x08, BYTES(0x01), 7, command);
+    write_command(0x10, 0x08, BYTES(0x01), 6, REFUSED(MOOR_OUTPUT_SHORT, 0));
+    write_command(0x10, 0x08, BYTES(0xA9, 0xAA), 10,
+                  WROTE(0x10, 0x08, 0xB5, 0x11, 0x02, 0xA9, 0x00, 0xA9, 0x01, 0x57));
+    write_command(0x10, 0x08, none, 5, REFUSED(MOOR_OUTPUT_SHORT, 0));
+    write_command(0x10, 0xFE, BYTES(SIXTEEN), 22,
+                  WROTE(0x10, 0xFE, 0xB5, 0x11, 0x10, SIXTEEN, 0x30));
+    write_command(0x12, 0xAA, seventeen, 0, REFUSED(MOOR_SOURCE_WRONG, 0));
+    write_command(0x10, 0xAA, seventeen, 0, REFUSED(MOOR_DESTINATION_WRONG, 0));
+    write_command(0x10, 0x08, seventeen, 0, REFUSED(MOOR_LENGTH_OVER, 0));
+    write_reply(BYTES(0x2A), 3, WROTE(0x01, 0x2A, 0xB1));
+    write_reply(BYTES(0x2A), 2, REFUSED(MOOR_OUTPUT_SHORT, 0));
+    write_reply(BYTES(SIXTEEN), 18, WROTE(0x10, SIXTEEN, 0x6E));
+    write_reply(seventeen, 0, REFUSED(MOOR_LENGTH_OVER, 0));
+    write_reply(none, 2, WROTE(0x00, 0x00));
+}
+
+/* ---- Exchanges ----------------------------------------------------------- */
+
+static uint8_t command[MOST], reply_1[MOST], reply_2[MOST];
+
+/* What judging a run must give. */
+typedef struct {
+    moor_judged answer;
+    bytes command, reply_1, reply_2;
+} exchange;
+
+#define JUDGED(kind, commands, replies, read) \
+    ((moor_judged){MOOR_ACCEPTED, (kind), (commands), (replies), 0, (read)})
+#define NOT_JUDGED(why, where) \
+    ((exchange){{.number = (why), .place = (where)}, none, none, none})
+
+static void judge_within(bytes run, size_t room, size_t room_1, size_t room_2, exchange must)
+{
+    fill(command);
+    fill(reply_1);
+    fill(reply_2);
+    moor_judged got = moor_judge(run.start, run.length, command, room, reply_1, room_1,
+                                 reply_2, room_2);
+    print_call("moor_judge", run);
+    if (got.number != MOOR_ACCEPTED)
+        print_refused(got.number, got.place);
+    else
+        printf("kind %u, attempts %u and %u, %zu bytes read\n", got.kind,
+               got.command_attempts, got.reply_attempts, got.read);
+    EXPECT(got.number == must.answer.number);
+    EXPECT(got.kind == must.answer.kind);
+    EXPECT(got.command_attempts == must.answer.command_attempts);
+    EXPECT(got.reply_attempts == must.answer.reply_attempts);
+    EXPECT(got.place == must.answer.place);
+    EXPECT(got.read == must.answer.read);
+    EXPECT(starts(command, must.command));
+    EXPECT(starts(reply_1, must.reply_1));
+    EXPECT(starts(reply_2, must.reply_2));
+}
+
+static void judge(bytes run, exchange must)
+{
+    judge_within(run, MOOR_COMMAND_ROOM, MOOR_REPLY_ROOM, MOOR_REPLY_ROOM, must);
+}
+
+static void reply_data(bytes first, bytes second, uint8_t attempt, moor_part must)
+{
+    moor_part got = moor_reply_data(first.start, first.length, second.start, second.length,
+                                    attempt);
+    print_call("moor_reply_data", first);
+    print_bytes(second);
+    printf(" attempt %u: %zu bytes from %zu of %u\n", attempt, got.length, got.start,
+           got.attempt);
+    EXPECT(got.attempt == must.attempt);
+    EXPECT(got.start == must.start);
+    EXPECT(got.length == must.length);
+}
+
+#define COMMAND 0x10, 0x08, 0xB5, 0x11, 0x01, 0x01, 0x89
+#define WRONG_COMMAND 0x10, 0x08, 0xB5, 0x11, 0x01, 0x01, 0x88
+#define REPLY 0x01, 0x2A, 0xB1
+#define WRONG_REPLY 0x01, 0x2B, 0xB1
+#define ACK 0x00
+#define NACK 0xFF
+#define SYN 0xAA
+
+static void exchanges_accepted(void)
+{
+    bytes sent = BYTES(COMMAND), answered = BYTES(REPLY), wrong = BYTES(WRONG_REPLY);
+    judge(BYTES(COMMAND, ACK, REPLY, ACK, SYN), /* W7 */
+          (exchange){JUDGED(MOOR_INITIATOR_TARGET, 1, 1, 13), sent, answered, none});
+    reply_data((bytes){reply_1, MOOR_REPLY_ROOM}, (bytes){reply_2, MOOR_REPLY_ROOM}, 1,
+               (moor_part){1, 1, 1});
+    EXPECT(reply_1[1] == 0x2A);
+    judge(BYTES(COMMAND, ACK, REPLY, ACK, SYN, 0x55),
+          (exchange){JUDGED(MOOR_INITIATOR_TARGET, 1, 1, 13), sent, answered, none});
+    judge(BYTES(0x10, 0xFE, 0xB5, 0x11, 0x01, 0x01, 0x10, SYN),
+          (exchange){JUDGED(MOOR_BROADCAST, 1, 0, 8),
+                     BYTES(0x10, 0xFE, 0xB5, 0x11, 0x01, 0x01, 0x10), none, none});
+    judge(BYTES(0x10, 0xFE, 0xB5, 0x11, 0x10, SIXTEEN, 0x30, SYN),
+          (exchange){JUDGED(MOOR_BROADCAST, 1, 0, 23),
+                     BYTES(0x10, 0xFE, 0xB5, 0x11, 0x10, SIXTEEN, 0x30), none, none});
+    judge(BYTES(0x10, 0x03, 0xB5, 0x11, 0x01, 0x01, 0x3A, ACK, SYN),
+          (exchange){JUDGED(MOOR_INITIATOR_INITIATOR, 1, 0, 9),
+                     BYTES(0x10, 0x03, 0xB5, 0x11, 0x01, 0x01, 0x3A), none, none});
+    judge(BYTES(WRONG_COMMAND, NACK, COMMAND, ACK, REPLY, ACK, SYN),
+          (exchange){JUDGED(MOOR_INITIATOR_TARGET, 2, 1, 21), sent, answered, none});
+    judge(BYTES(COMMAND, ACK, WRONG_REPLY, NACK, REPLY, ACK, SYN),
+          (exchange){JUDGED(MOOR_INITIATOR_TARGET, 1, 2, 17), sent, wrong, answered});
+    reply_data((bytes){reply_1, MOOR_REPLY_ROOM}, (bytes){reply_2, MOOR_REPLY_ROOM}, 2,
+               (moor_part){2, 1, 1});
+    EXPECT(reply_2[1] == 0x2A);
+}
+
+static void exchanges_refused(void)
+{
+    judge(BYTES(COMMAND, 0x55, REPLY, ACK, SYN), NOT_JUDGED(MOOR_BUS_ERROR, 7)); /* W8 */
+    judge(none, NOT_JUDGED(MOOR_RUN_ENDED, 0));
+    judge(BYTES(COMMAND, ACK), NOT_JUDGED(MOOR_RUN_ENDED, 8));
+    judge(BYTES(0x10, 0x08, 0xB5, 0x11, 0x01, 0xA9, 0x02), NOT_JUDGED(MOOR_ESCAPE_WRONG, 6));
+    judge(BYTES(0x10, 0x08, SYN), NOT_JUDGED(MOOR_SYN_EARLY, 2));
+    judge(BYTES(WRONG_COMMAND, SYN), NOT_JUDGED(MOOR_SYN_EARLY, 7));
+    judge(BYTES(COMMAND, ACK, REPLY, SYN), NOT_JUDGED(MOOR_SYN_EARLY, 11));
+    judge(BYTES(0x12, 0x08), NOT_JUDGED(MOOR_SOURCE_WRONG, 0));
+    judge(BYTES(0x10, 0xA9, 0x01), NOT_JUDGED(MOOR_DESTINATION_WRONG, 1));
+    judge(BYTES(0x10, 0xFE, 0xB5, 0x11, 0x11), NOT_JUDGED(MOOR_LENGTH_OVER, 4));
+    judge(BYTES(WRONG_COMMAND, ACK, REPLY, ACK, SYN), NOT_JUDGED(MOOR_CHECK_WRONG, 6));
+    judge(BYTES(COMMAND, ACK, WRONG_REPLY, ACK, SYN), NOT_JUDGED(MOOR_CHECK_WRONG, 10));
+    judge(BYTES(0x10, 0xFE, 0xB5, 0x11, 0x01, 0x01, 0x11), NOT_JUDGED(MOOR_CHECK_WRONG, 6));
+    judge(BYTES(COMMAND, NACK, COMMAND, NACK), NOT_JUDGED(MOOR_COMMAND_NACKED, 15));
+    judge(BYTES(COMMAND, ACK, REPLY, NACK, REPLY, NACK), NOT_JUDGED(MOOR_REPLY_NACKED, 15));
+    judge(BYTES(COMMAND, ACK, REPLY, ACK, ACK), NOT_JUDGED(MOOR_BUS_ERROR, 12));
+    bytes run = BYTES(COMMAND, ACK, REPLY, ACK, SYN);
+    judge_within(run, 21, 18, 18, NOT_JUDGED(MOOR_OUTPUT_SHORT, 0));
+    judge_within(run, 22, 17, 18, NOT_JUDGED(MOOR_OUTPUT_SHORT, 0));
+    judge_within(run, 22, 18, 17, NOT_JUDGED(MOOR_OUTPUT_SHORT, 0));
+    judge_within(none, 0, 0, 0, NOT_JUDGED(MOOR_OUTPUT_SHORT, 0));
+}
+
+static void data_of_replies(void)
+{
+    moor_part empty = {1, 0, 0};
+    reply_data(BYTES(0x10, SIXTEEN), none, 1, (moor_part){1, 1, 16});
+    reply_data(BYTES(0x02, 0x2A), none, 1, empty);
+    reply_data(BYTES(0x11, SIXTEEN, 16, 17), none, 1, empty);
+    reply_data(BYTES(REPLY), BYTES(WRONG_REPLY), 0, empty);
+    reply_data(BYTES(REPLY), BYTES(WRONG_REPLY), 3, empty);
+    reply_data(BYTES(REPLY), none, 2, empty);
+    reply_data(BYTES(0x00, 0x00), none, 1, (moor_part){1, 1, 0});
+    reply_data(BYTES(REPLY), BYTES(0x00, 0x00), 2, (moor_part){2, 1, 0});
+    reply_data(none, none, 1, empty);
+}
+
+/* ---- Frames -------------------------------------------------------------- */
+
+static void read_request(bytes frame, moor_request_read must)
+{
+    moor_request_read got = moor_read_request(frame.start, frame.length);
+    print_call("moor_read_request", frame);
+    if (got.number != MOOR_ACCEPTED)
+        print_refused(got.number, got.place);
+    else
+        printf("%s\n", got.request == MOOR_START ? "start" : "continue");
+    EXPECT(got.number == must.number);
+    EXPECT(got.request == must.request);
+    EXPECT(got.place == must.place);
+}
+
+static void read_answer(bytes frame, moor_answer_read must)
+{
+    moor_answer_read got = moor_read_answer(frame.start, frame.length);
+    print_call("moor_read_answer", frame);
+    if (got.number != MOOR_ACCEPTED)
+        print_refused(got.number, got.place);
+    else if (got.answer == MOOR_FOUND)
+        printf("found %08X at %02X\n", (unsigned)got.serial, got.address);
+    else
+        printf("end\n");
+    EXPECT(got.number == must.number);
+    EXPECT(got.answer == must.answer);
+    EXPECT(got.address == must.address);
+    EXPECT(got.serial == must.serial);
+    EXPECT(got.place == must.place);
+}
+
+#define START_FRAME 0xFD, 0x46, 0x01, 0x13, 0x90
+#define CONTINUE_FRAME 0xFD, 0x46, 0x02, 0x53, 0x91
+#define END_FRAME 0xFD, 0x46, 0x04, 0xD3, 0x93
+#define FOUND_FRAME 0xFD, 0x46, 0x03, 0x00, 0x01, 0xEB, 0x37, 0x0C, 0xCE, 0xDC
+#define NO_REQUEST(why, where) ((moor_request_read){.number = (why), .place = (where)})
+#define NO_ANSWER(why, where) ((moor_answer_read){.number = (why), .place = (where)})
+
+static void requests_read(void)
+{
+    read_request(BYTES(START_FRAME), (moor_request_read){.request = MOOR_START});       /* W9 */
+    read_request(BYTES(CONTINUE_FRAME), (moor_request_read){.request = MOOR_CONTINUE}); /* W9 */
+    read_request(none, NO_REQUEST(MOOR_FRAME_LENGTH, 0));
+    read_request(BYTES(0xFD, 0x46, 0x01, 0x13), NO_REQUEST(MOOR_FRAME_LENGTH, 0));
+    read_request(BYTES(START_FRAME, 0x00), NO_REQUEST(MOOR_FRAME_LENGTH, 0));
+    read_request(BYTES(0xFF, START_FRAME), NO_REQUEST(MOOR_FRAME_HEAD, 0));
+    read_request(BYTES(0xFD, 0x47, 0x01, 0x13, 0x90), NO_REQUEST(MOOR_FRAME_HEAD, 1));
+    read_request(BYTES(END_FRAME), NO_REQUEST(MOOR_SUBCOMMAND_WRONG, 2));
+    read_request(BYTES(0xFD, 0x46, 0x01, 0x13, 0x91), NO_REQUEST(MOOR_FRAME_CHECK, 3));
+}
+
+static void answers_read(void)
+{
+    moor_answer_read end = {.answer = MOOR_END};
+    moor_answer_read found = {.answer = MOOR_FOUND, .address = 0x0C, .serial = 0x0001EB37};
+    read_answer(BYTES(END_FRAME), end);     /* W10 */
+    read_answer(BYTES(FOUND_FRAME), found); /* W11 */
+    read_answer(BYTES(0xFF, 0xFF, 0xFF, END_FRAME), end);
+    read_answer(BYTES(0xFF, FOUND_FRAME), found);
+    read_answer(none, NO_ANSWER(MOOR_FRAME_LENGTH, 0));
+    read_answer(BYTES(0xFF, 0xFF, 0xFF, 0xFF, 0xFF, 0xFF), NO_ANSWER(MOOR_FRAME_LENGTH, 0));
+    read_answer(BYTES(0xFF, 0xFE, 0x46, 0x04, 0xD3, 0x93), NO_ANSWER(MOOR_FRAME_HEAD, 1));
+    read_answer(BYTES(0xFF, START_FRAME), NO_ANSWER(MOOR_SUBCOMMAND_WRONG, 3));
+    read_answer(BYTES(0xFF, 0xFD, 0x46, 0x04, 0xD3, 0x94), NO_ANSWER(MOOR_FRAME_CHECK, 4));
+    read_answer(BYTES(0xFD, 0x46, 0x03, 0x10, 0x00, 0x00, 0x00, 0x01, 0xA9, 0x22),
+                NO_ANSWER(MOOR_SERIAL_OVER, 3));
+}
+
+static void write_request(uint8_t request, size_t room, outcome must)
+{
+    fill(out);
+    moor_written got = moor_write_request(request, out, room);
+    printf("moor_write_request %u -> ", request);
+    written(got, must);
+}
+
+static void write_found(uint32_t serial, uint8_t address, size_t room, outcome must)
+{
+    fill(out);
+    moor_written got = moor_write_found(serial, address, out, room);
+    printf("moor_write_found %08X at %02X -> ", (unsigned)serial, address);
+    written(got, must);
+}
+
+static void write_end(size_t room, outcome must)
+{
+    fill(out);
+    moor_written got = moor_write_end(out, room);
+    printf("moor_write_end -> ");
+    written(got, must);
+}
+
+static void frames_written(void)
+{
+    write_request(MOOR_START, 5, WROTE(START_FRAME));       /* W9 */
+    write_request(MOOR_CONTINUE, 5, WROTE(CONTINUE_FRAME)); /* W9 */
+    write_request(MOOR_START, 4, REFUSED(MOOR_OUTPUT_SHORT, 0));
+    write_request(0, 0, REFUSED(MOOR_SUBCOMMAND_WRONG, 0));
+    write_request(3, 5, REFUSED(MOOR_SUBCOMMAND_WRONG, 0));
+    write_found(0x0001EB37, 0x0C, 10, WROTE(FOUND_FRAME)); /* W11 */
+    write_found(0x0001EB37, 0x0C, 9, REFUSED(MOOR_OUTPUT_SHORT, 0));
+    write_found(0x0FFFFFFF, 0x01, MOST,
+                WROTE(0xFD, 0x46, 0x03, 0x0F, 0xFF, 0xFF, 0xFF, 0x01, 0x7D, 0x34));
+    write_found(0x10000000, 0x01, 0, REFUSED(MOOR_SERIAL_OVER, 0));
+    write_end(5, WROTE(END_FRAME)); /* W10 */
+    write_end(4, REFUSED(MOOR_OUTPUT_SHORT, 0));
+}
+
+/* ---- Devices ------------------------------------------------------------- */
+
+/* A device table of three; calls may be lent fewer. */
+typedef struct {
+    uint32_t serials[3];
+    uint8_t addresses[3];
+    uint8_t marks[3];
+} table;
+
+#define COLUMNS(t) (t).serials, 3, (t).addresses, 3, (t).marks, 3
+#define NO_COLUMNS NULL, 0, NULL, 0, NULL, 0
+
+/* The table of W12 and W13. */
+static table three(uint8_t mark_0, uint8_t mark_1, uint8_t mark_2)
+{
+    return (table){{0x0001EB37, 5, 9}, {0x0C, 0x02, 0x03}, {mark_0, mark_1, mark_2}};
+}
+
+static bool marked(const table *now, uint8_t mark_0, uint8_t mark_1, uint8_t mark_2)
+{
+    table must = three(mark_0, mark_1, mark_2);
+    return memcmp(now->serials, must.serials, sizeof must.serials) == 0 &&
+           memcmp(now->addresses, must.addresses, sizeof must.addresses) == 0 &&
+           memcmp(now->marks, must.marks, sizeof must.marks) == 0;
+}
+
+#define TABLE_VALID(why, must, ...)                                        \
+    do {                                                                   \
+        bool got = moor_table_valid(__VA_ARGS__);                          \
+        printf("moor_table_valid, %s -> %s\n", why, got ? "yes" : "no");   \
+        EXPECT(got == (must));                                             \
+    } while (0)
+
+static void tables(void)
+{
+    static uint32_t serials[248];
+    static uint8_t zeros[248];
+    for (uint32_t i = 0; i < 248; i++)
+        serials[i] = 0x0FFFFFFF - i;
+    table t = three(0, 1, 0);
+    TABLE_VALID("three devices", true, COLUMNS(t));
+    TABLE_VALID("no device", true, NO_COLUMNS);
+    TABLE_VALID("247 devices", true, serials, 247, zeros, 247, zeros, 247);
+    TABLE_VALID("248 devices", false, serials, 248, zeros, 248, zeros, 248);
+    TABLE_VALID("an address less", false, t.serials, 3, t.addresses, 2, t.marks, 3);
+    TABLE_VALID("no marks", false, t.serials, 3, t.addresses, 3, NULL, 0);
+    TABLE_VALID("no serials", false, NULL, 0, t.addresses, 3, t.marks, 3);
+    t = three(0, 2, 0);
+    TABLE_VALID("a mark of 2", false, COLUMNS(t));
+    t = three(0, 0, 0);
+    t.serials[0] = 9;
+    TABLE_VALID("a serial twice", false, COLUMNS(t));
+    t.serials[0] = 0x0FFFFFFF;
+    TABLE_VALID("serial 0FFFFFFF", true, COLUMNS(t));
+    t.serials[0] = 0x10000000;
+    TABLE_VALID("serial 10000000", false, COLUMNS(t));
+}
+
+static void contest(const uint32_t *keys, size_t length, uint32_t key, size_t dominant)
+{
+    moor_decided got = moor_contest(keys, length);
+    printf("moor_contest of %zu -> key %08X, %zu dominant\n", length, (unsigned)got.key,
+           got.dominant);
+    EXPECT(got.key == key);
+    EXPECT(got.dominant == dominant);
+}
+
+static void contests(void)
+{
+    contest((const uint32_t[]){0xF0000005, 0x0001EB37, 0x0101EB37}, 3, 0x0001EB37, 20);
+    contest((const uint32_t[]){0xF001EB37}, 1, 0xF001EB37, 16);
+    contest((const uint32_t[]){0}, 1, 0, 32);
+    contest((const uint32_t[]){0xFFFFFFFF, 0xFFFFFFFF}, 2, 0xFFFFFFFF, 0);
+    contest(NULL, 0, 0, 0);
+}
+
+#define FF_10 0xFF, 0xFF, 0xFF, 0xFF, 0xFF, 0xFF, 0xFF, 0xFF, 0xFF, 0xFF
+#define FF_6 0xFF, 0xFF, 0xFF, 0xFF, 0xFF, 0xFF
+
+static void start(table *t, size_t room, outcome must)
+{
+    fill(out);
+    moor_written got = moor_start(COLUMNS(*t), out, room);
+    printf("moor_start -> ");
+    written(got, must);
+}
+
+static void resume(table *t, size_t room, outcome must)
+{
+    fill(out);
+    moor_written got = moor_resume(COLUMNS(*t), out, room);
+    printf("moor_resume -> ");
+    written(got, must);
+}
+
+static void offer(bytes frame, table *t, size_t room, outcome must)
+{
+    fill(out);
+    moor_written got = moor_offer(frame.start, frame.length, COLUMNS(*t), out, room);
+    print_call("moor_offer", frame);
+    written(got, must);
+}
+
+/* A start and continues: one FF for each zero bit of the winner's key. */
+static void requests_answered(void)
+{
+    table t = three(1, 1, 1);
+    outcome end = WROTE(FF_10, FF_10, FF_6, END_FRAME);
+    start(&t, 42, WROTE(FF_10, FF_10, FF_10, 0xFD, 0x46, 0x03, 0x00, 0x00, 0x00, 0x05, 0x02,
+                        0x2B, 0xB0));
+    EXPECT(marked(&t, 0, 1, 0));
+    resume(&t, 42, WROTE(FF_10, FF_10, FF_10, 0xFD, 0x46, 0x03, 0x00, 0x00, 0x00, 0x09, 0x03,
+                         0xEF, 0x70));
+    EXPECT(marked(&t, 0, 1, 1));
+    offer(BYTES(CONTINUE_FRAME), &t, 42, WROTE(FF_10, FF_10, FOUND_FRAME));
+    EXPECT(marked(&t, 1, 1, 1));
+    resume(&t, 42, end);
+    offer(BYTES(CONTINUE_FRAME), &t, MOST, end);
+    EXPECT(marked(&t, 1, 1, 1));
+    offer(BYTES(START_FRAME), &t, 42, WROTE(FF_10, FF_10, FF_10, 0xFD, 0x46, 0x03, 0x00, 0x00,
+                                            0x00, 0x05, 0x02, 0x2B, 0xB0));
+    EXPECT(marked(&t, 0, 1, 0));
+}
+
+static void requests_refused(void)
+{
+    outcome output_short = REFUSED(MOOR_OUTPUT_SHORT, 0);
+    outcome not_valid = REFUSED(MOOR_TABLE_NOT_VALID, 0);
+    table t = three(1, 2, 1);
+    start(&t, 41, output_short);
+    resume(&t, 41, output_short);
+    offer(none, &t, 41, output_short);
+    start(&t, 42, not_valid);
+    resume(&t, 42, not_valid);
+    offer(none, &t, 42, not_valid);
+    EXPECT(marked(&t, 1, 2, 1));
+    t.marks[1] = 1;
+    offer(none, &t, 42, REFUSED(MOOR_FRAME_LENGTH, 0));
+    offer(BYTES(0xFD, 0x47, 0x01, 0x13, 0x90), &t, 42, REFUSED(MOOR_FRAME_HEAD, 1));
+    offer(BYTES(END_FRAME), &t, 42, REFUSED(MOOR_SUBCOMMAND_WRONG, 2));
+    offer(BYTES(0xFD, 0x46, 0x01, 0x13, 0x91), &t, 42, REFUSED(MOOR_FRAME_CHECK, 3));
+    EXPECT(marked(&t, 1, 1, 1));
+}
+
+static void silence(void)
+{
+    bytes frame = BYTES(START_FRAME);
+    fill(out);
+    printf("moor_start, no device -> ");
+    written(moor_start(NO_COLUMNS, out, 42), nothing_written);
+    printf("moor_resume, no device -> ");
+    written(moor_resume(NO_COLUMNS, out, 42), nothing_written);
+    printf("moor_offer, no device -> ");
+    written(moor_offer(frame.start, frame.length, NO_COLUMNS, out, 42), nothing_written);
+}
+
+/* ---- Whole scans --------------------------------------------------------- */
+
+static uint32_t found_serials[4];
+static uint8_t found_addresses[4];
+
+static void clear_lists(void)
+{
+    for (size_t i = 0; i < 4; i++) {
+        found_serials[i] = FILL;
+        found_addresses[i] = FILL;
+    }
+}
+
+/* Whether the lists hold the devices of W12 in the order heard, `found` of
+ * them, and are as they were behind them. */
+static bool listed(size_t found)
+{
+    const uint32_t serials[] = {5, 9, 0x0001EB37};
+    const uint8_t addresses[] = {0x02, 0x03, 0x0C};
+    for (size_t i = 0; i < 4; i++) {
+        if (found_serials[i] != (i < found ? serials[i] : FILL) ||
+            found_addresses[i] != (i < found ? addresses[i] : FILL))
+            return false;
+    }
+    return true;
+}
+
+static void scanned(moor_scanned got, moor_scanned must)
+{
+    if (got.number != MOOR_ACCEPTED)
+        print_refused(got.number, got.place);
+    else
+        printf("end %u, %zu requests, %zu found\n", got.end, got.requests, got.found);
+    EXPECT(got.number == must.number);
+    EXPECT(got.end == must.end);
+    EXPECT(got.place == must.place);
+    EXPECT(got.requests == must.requests);
+    EXPECT(got.found == must.found);
+    EXPECT(listed(must.found));
+}
+
+static void scan(table *t, size_t serials, size_t addresses, size_t cap, moor_scanned must)
+{
+    clear_lists();
+    moor_scanned got = moor_scan(COLUMNS(*t), found_serials, serials, found_addresses,
+                                 addresses, cap);
+    printf("moor_scan, cap %zu -> ", cap);
+    scanned(got, must);
+}
+
+#define SCANNED(end, requests, found) \
+    ((moor_scanned){MOOR_ACCEPTED, (end), 0, (requests), (found)})
+
+static void scans(void)
+{
+    moor_scanned output_short = {.number = MOOR_OUTPUT_SHORT};
+    table t = three(0, 0, 0);
+    scan(&t, 3, 3, 100, SCANNED(MOOR_COMPLETE, 4, 3)); /* W12 */
+    EXPECT(marked(&t, 1, 1, 1));
+    scan(&t, 3, 3, 3, SCANNED(MOOR_UNFINISHED, 3, 3)); /* W13 */
+    EXPECT(marked(&t, 1, 1, 1));
+    scan(&t, 4, 4, 1, SCANNED(MOOR_UNFINISHED, 1, 1));
+    EXPECT(marked(&t, 0, 1, 0));
+    scan(&t, 3, 3, 0, SCANNED(MOOR_UNFINISHED, 0, 0));
+    EXPECT(marked(&t, 0, 1, 0));
+    clear_lists();
+    printf("moor_scan, no device, cap 1 -> "); /* W14 */
+    scanned(moor_scan(NO_COLUMNS, NULL, 0, NULL, 0, 1), SCANNED(MOOR_NOBODY, 1, 0));
+    t = three(0, 2, 0);
+    scan(&t, 2, 3, 100, output_short);
+    scan(&t, 3, 2, 100, output_short);
+    scan(&t, 3, 3, 0, (moor_scanned){.number = MOOR_TABLE_NOT_VALID});
+    EXPECT(marked(&t, 0, 2, 0));
+}
+
+int main(void)
+{
+    checks();
+    addresses();
+    logical_bytes();
+    escapes();
+    commands_read();
+    replies_read();
+    checks_of_telegrams();
+    telegrams_written();
+    exchanges_accepted();
+    exchanges_refused();
+    data_of_replies();
+    requests_read();
+    answers_read();
+    frames_written();
+    tables();
+    contests();
+    requests_answered();
+    requests_refused();
+    silence();
+    scans();
+    printf("%u held, %u differ\n", held, differ);
+    return differ == 0 ? 0 : 1;
+}

@@ -1,0 +1,444 @@
+/*
+ * moortinker.h - the bus core of a plant-room gateway: eBUS to the boilers,
+ * Fast Modbus to the sensors.
+ *
+ * Link with libgateway.a (`rt staticlib gateway` writes it to
+ * target/staticlib/). x86-64 Linux. The library keeps no state, allocates
+ * nothing and calls nothing but memcpy and memset.
+ *
+ * Example: the data that a boiler replied in a recorded exchange.
+ *
+ *     static const uint8_t run[] = {0x10, 0x08, 0xB5, 0x11, 0x01, 0x01, 0x89,
+ *                                   0x00, 0x01, 0x2A, 0xB1, 0x00, 0xAA};
+ *     uint8_t command[MOOR_COMMAND_ROOM];
+ *     uint8_t replies[2][MOOR_REPLY_ROOM];
+ *     moor_judged judged = moor_judge(run, sizeof run,
+ *                                     command, sizeof command,
+ *                                     replies[0], sizeof replies[0],
+ *                                     replies[1], sizeof replies[1]);
+ *     if (judged.number != MOOR_ACCEPTED) {
+ *         printf("refused %u at %zu\n", judged.number, judged.place);
+ *         return 1;
+ *     }
+ *     moor_part data = moor_reply_data(replies[0], sizeof replies[0],
+ *                                      replies[1], sizeof replies[1],
+ *                                      judged.reply_attempts);
+ *     for (size_t i = 0; i < data.length; i++)
+ *         printf("%02X\n", replies[data.attempt - 1][data.start + i]);
+ *
+ * prints 2A.
+ *
+ * What every call promises, for any bytes and any lengths:
+ *   - it returns;
+ *   - it reads and writes only the buffers that it was lent;
+ *   - it relies on no check by its caller;
+ *   - a refusal is a number (MOOR_OUTPUT_SHORT and so on, 0 means accepted)
+ *     and a place, the offset of the raw byte that is named, 0 where none is;
+ *     every lent buffer then keeps its bytes, and the other fields of the
+ *     answer are 0.
+ *
+ * What the caller owes, as in any C interface:
+ *   - a pointer is valid for as many elements as the length behind it says
+ *     (with length 0 nothing is read or written through it, and it may be
+ *     null);
+ *   - a buffer that is written overlaps no other buffer of the same call.
+ *
+ * Calls on different buffers may run at the same time. Lengths count
+ * elements, not bytes. Bytes are in hex.
+ *
+ * "Refuses with" lists a call's refusals in the order in which they are
+ * looked for; the first that holds is given.
+ */
+#ifndef MOORTINKER_H
+#define MOORTINKER_H
+
+#include <stdbool.h>
+#include <stddef.h>
+#include <stdint.h>
+
+#ifdef __cplusplus
+extern "C" {
+#endif
+
+/* ---- Numbers handed back on refusal ------------------------------------- */
+
+#define MOOR_ACCEPTED           0 /* not refused */
+#define MOOR_OUTPUT_SHORT       1 /* a lent output is shorter than stated */
+#define MOOR_TABLE_NOT_VALID    2 /* the device table is not valid */
+#define MOOR_RUN_ENDED          3 /* the eBUS run ends too early; place: its length */
+#define MOOR_ESCAPE_WRONG       4 /* the byte after A9 is none of 00, 01, AA */
+#define MOOR_SYN_EARLY          5 /* raw AA where another byte was due */
+#define MOOR_SOURCE_WRONG       6 /* SRC is no initiator address */
+#define MOOR_DESTINATION_WRONG  7 /* DST is A9 or AA */
+#define MOOR_LENGTH_OVER        8 /* LEN is over 16 */
+#define MOOR_CHECK_WRONG        9 /* wrong check byte in an accepted attempt */
+#define MOOR_COMMAND_NACKED    10 /* the command was NACKed twice; place: the second FF */
+#define MOOR_REPLY_NACKED      11 /* the reply was NACKed twice; place: the second FF */
+#define MOOR_BUS_ERROR         12 /* an acknowledge byte that is none of 00, FF, AA,
+                                     or not AA where SYN is due */
+#define MOOR_FRAME_LENGTH      13 /* Modbus length wrong; place: 0 */
+#define MOOR_FRAME_HEAD        14 /* not FD 46; place: the first wrong byte */
+#define MOOR_SUBCOMMAND_WRONG  15 /* a subcommand that this call does not take */
+#define MOOR_FRAME_CHECK       16 /* Modbus check wrong; place: its first byte */
+#define MOOR_SERIAL_OVER       17 /* serial 2^28 or more; place: its first byte */
+
+/* ---- Other constants ---------------------------------------------------- */
+
+/* The kind of an eBUS exchange, which its destination decides. */
+#define MOOR_BROADCAST           1 /* to all: no acknowledge byte, no reply */
+#define MOOR_INITIATOR_INITIATOR 2 /* acknowledged, no reply */
+#define MOOR_INITIATOR_TARGET    3 /* acknowledged, then a reply, acknowledged */
+
+/* A scan request. */
+#define MOOR_START    1
+#define MOOR_CONTINUE 2
+
+/* An answer to a scan request. */
+#define MOOR_FOUND 3
+#define MOOR_END   4
+
+/* How a whole scan ended. */
+#define MOOR_COMPLETE   1 /* the end of the scan was heard */
+#define MOOR_NOBODY     2 /* nobody answered */
+#define MOOR_UNFINISHED 3 /* the cap was reached first */
+
+/* The room that calls ask for. */
+#define MOOR_COMMAND_ROOM  22 /* command buffer of moor_judge */
+#define MOOR_REPLY_ROOM    18 /* each reply buffer of moor_judge */
+#define MOOR_ANSWER_ROOM   42 /* answer buffer of moor_start, moor_resume, moor_offer */
+#define MOOR_COMMAND_WIRE  41 /* the longest command on the wire */
+#define MOOR_REPLY_WIRE    35 /* the longest reply on the wire */
+#define MOOR_MOST_DEVICES 247 /* the largest device table */
+
+/* ---- Answers ------------------------------------------------------------ */
+
+/* What a call that writes gives: `length` bytes at the start of the output;
+ * the bytes behind them stay. */
+typedef struct {
+    uint8_t number;
+    size_t place;
+    size_t length;
+} moor_written;
+
+/* A logical byte of a raw run, and the position behind it. */
+typedef struct {
+    uint8_t number;
+    uint8_t byte;
+    size_t place;
+    size_t next;
+} moor_logical;
+
+/* A telegram read from a raw run: the first `length` of `bytes`, the check
+ * byte included, the others 0; `last` is the place of the check byte's first
+ * raw byte, `next` the position behind the telegram. */
+typedef struct {
+    uint8_t number;
+    size_t place;
+    size_t length;
+    size_t last;
+    size_t next;
+    uint8_t bytes[22];
+} moor_telegram;
+
+/* A judged exchange: MOOR_BROADCAST and so on, the attempts at command and
+ * reply (0 without a reply), and the raw bytes read, SYN included. */
+typedef struct {
+    uint8_t number;
+    uint8_t kind;
+    uint8_t command_attempts;
+    uint8_t reply_attempts;
+    size_t place;
+    size_t read;
+} moor_judged;
+
+/* Where a reply's data stands: `length` bytes from `start` of the buffer of
+ * attempt 1 or 2. */
+typedef struct {
+    uint8_t attempt;
+    size_t start;
+    size_t length;
+} moor_part;
+
+/* A request frame read: MOOR_START or MOOR_CONTINUE. */
+typedef struct {
+    uint8_t number;
+    uint8_t request;
+    size_t place;
+} moor_request_read;
+
+/* An answer frame read: MOOR_FOUND with serial and address, or MOOR_END with
+ * both 0. */
+typedef struct {
+    uint8_t number;
+    uint8_t answer;
+    uint8_t address;
+    uint32_t serial;
+    size_t place;
+} moor_answer_read;
+
+/* What a contest gives: the key that remains, and how many windows were
+ * dominant. */
+typedef struct {
+    uint32_t key;
+    size_t dominant;
+} moor_decided;
+
+/* A whole scan: MOOR_COMPLETE and so on, the requests sent, and how many
+ * devices were heard, which is how many entries the two lists start with. */
+typedef struct {
+    uint8_t number;
+    uint8_t end;
+    size_t place;
+    size_t requests;
+    size_t found;
+} moor_scanned;
+
+/* ---- Checks ------------------------------------------------------------- */
+
+/* The eBUS check byte of logical bytes: A9 counts as A9 00, AA as A9 01. Of
+ * no bytes it is 00. Never refuses. */
+uint8_t moor_ebus_check(const uint8_t *logical, size_t logical_length);
+
+/* The Modbus check of the bytes; it is sent low byte first. Of no bytes it is
+ * FFFF. Never refuses. */
+uint16_t moor_modbus_check(const uint8_t *bytes, size_t bytes_length);
+
+/* ---- eBUS: escapes and addresses ---------------------------------------- */
+
+/* Raw bytes are those on the wire, logical bytes those meant. On the wire
+ * every A9 becomes A9 00 and every AA becomes A9 01; a raw AA is always SYN. */
+
+/* Whether this is an initiator's address, both nibbles among 0, 1, 3, 7, F:
+ * there are 25, FF included. */
+bool moor_is_initiator(uint8_t address);
+
+/* Whether this is A9 or AA, which no destination may be. */
+bool moor_is_reserved(uint8_t address);
+
+/* The kind of an exchange with this destination: MOOR_BROADCAST for FE,
+ * MOOR_INITIATOR_INITIATOR for an initiator's address, else
+ * MOOR_INITIATOR_TARGET, also for A9 and AA. */
+uint8_t moor_kind(uint8_t destination);
+
+/* The logical byte at a position of a raw run; `at` may be any number.
+ *
+ * Refuses with
+ *   MOOR_RUN_ENDED     if the run ends before or within the byte;
+ *   MOOR_ESCAPE_WRONG  at the byte after A9;
+ *   MOOR_SYN_EARLY     at the AA, also after A9. */
+moor_logical moor_logical_at(const uint8_t *run, size_t run_length, size_t at);
+
+/* Writes logical bytes as they go on the wire.
+ *
+ * Refuses with
+ *   MOOR_OUTPUT_SHORT  if their exact length on the wire exceeds the output. */
+moor_written moor_expand(const uint8_t *logical, size_t logical_length,
+                         uint8_t *out, size_t out_length);
+
+/* Undoes the escapes of a raw input.
+ *
+ * Refuses with
+ *   MOOR_RUN_ENDED, MOOR_ESCAPE_WRONG or MOOR_SYN_EARLY
+ *                      as moor_logical_at does, the first that is met,
+ *                      anywhere in the input;
+ *   MOOR_OUTPUT_SHORT  if the exact number of logical bytes exceeds the
+ *                      output. */
+moor_written moor_undo(const uint8_t *raw, size_t raw_length,
+                       uint8_t *out, size_t out_length);
+
+/* ---- eBUS: telegrams and exchanges -------------------------------------- */
+
+/* A command is SRC DST PB SB LEN, LEN data bytes, check byte; a reply is LEN,
+ * data, check byte. LEN is at most 16. */
+
+/* The command (`command` true) or the reply at a position of a raw run, its
+ * check byte not judged; `at` may be any number.
+ *
+ * Refuses with the first that is met, byte by byte, of
+ *   MOOR_RUN_ENDED, MOOR_ESCAPE_WRONG, MOOR_SYN_EARLY
+ *                           as moor_logical_at does; within an escape these
+ *                           come before the three below;
+ *   MOOR_SOURCE_WRONG       at SRC, in a command;
+ *   MOOR_DESTINATION_WRONG  at DST, in a command;
+ *   MOOR_LENGTH_OVER        at LEN. */
+moor_telegram moor_telegram_at(const uint8_t *run, size_t run_length,
+                               bool command, size_t at);
+
+/* Whether the last of these logical bytes is the check byte of those before
+ * it; false for no bytes. */
+bool moor_check_right(const uint8_t *telegram, size_t telegram_length);
+
+/* Writes a command on the wire, at most MOOR_COMMAND_WIRE bytes.
+ *
+ * Refuses, every place being 0, with
+ *   MOOR_SOURCE_WRONG;
+ *   MOOR_DESTINATION_WRONG;
+ *   MOOR_LENGTH_OVER   if there are more than 16 data bytes;
+ *   MOOR_OUTPUT_SHORT  if the exact length on the wire exceeds the output. */
+moor_written moor_write_command(uint8_t source, uint8_t destination,
+                                uint8_t primary, uint8_t secondary,
+                                const uint8_t *payload, size_t payload_length,
+                                uint8_t *out, size_t out_length);
+
+/* Writes a reply on the wire, at most MOOR_REPLY_WIRE bytes.
+ *
+ * Refuses, every place being 0, with
+ *   MOOR_LENGTH_OVER   if there are more than 16 data bytes;
+ *   MOOR_OUTPUT_SHORT  if the exact length on the wire exceeds the output. */
+moor_written moor_write_reply(const uint8_t *payload, size_t payload_length,
+                              uint8_t *out, size_t out_length);
+
+/* Judges a recorded run from its start to SYN; bytes behind that are not
+ * looked at. When accepted, `command` starts with the accepted command, SRC
+ * through check byte, and `reply_1` and `reply_2` with the reply attempts that
+ * happened, LEN through check byte, NACKed ones included; all other bytes
+ * stay. A command attempt that was NACKed is not kept.
+ *
+ * Refuses with
+ *   MOOR_OUTPUT_SHORT    if the buffers are under MOOR_COMMAND_ROOM,
+ *                        MOOR_REPLY_ROOM and MOOR_REPLY_ROOM bytes, also where
+ *                        this exchange would not use one of them;
+ * and then the first that is met, byte by byte, of
+ *   MOOR_RUN_ENDED to MOOR_LENGTH_OVER
+ *                        as moor_telegram_at does;
+ *   MOOR_RUN_ENDED       if an acknowledge byte or SYN is missing;
+ *   MOOR_SYN_EARLY       at an AA in place of an acknowledge byte;
+ *   MOOR_CHECK_WRONG     at the check byte, when the attempt is acknowledged
+ *                        by 00, for a broadcast at once;
+ *   MOOR_COMMAND_NACKED, MOOR_REPLY_NACKED
+ *                        at the second FF;
+ *   MOOR_BUS_ERROR       at the byte. */
+moor_judged moor_judge(const uint8_t *run, size_t run_length,
+                       uint8_t *command, size_t command_length,
+                       uint8_t *reply_1, size_t reply_1_length,
+                       uint8_t *reply_2, size_t reply_2_length);
+
+/* Where the data of the reply attempt asked for stands in the buffers that
+ * moor_judge filled. Ask with the attempts that moor_judge gave.
+ *
+ * Never refuses. A reply with LEN 0 has its data behind LEN like any other
+ * (start 1, length 0). Where there is no such data it is the empty start of
+ * the first buffer (attempt 1, start 0, length 0): for an attempt other than 1
+ * and 2, an empty buffer, a LEN over 16 or data that would pass the buffer's
+ * end. */
+moor_part moor_reply_data(const uint8_t *reply_1, size_t reply_1_length,
+                          const uint8_t *reply_2, size_t reply_2_length,
+                          uint8_t attempt);
+
+/* ---- Fast Modbus: scan frames ------------------------------------------- */
+
+/* What a request frame asks; it must fill the input.
+ *
+ * Refuses with
+ *   MOOR_FRAME_LENGTH      if there are fewer than 5 bytes;
+ *   MOOR_FRAME_HEAD;
+ *   MOOR_SUBCOMMAND_WRONG  if it is neither 01 nor 02;
+ *   MOOR_FRAME_LENGTH      if there are more than 5 bytes;
+ *   MOOR_FRAME_CHECK. */
+moor_request_read moor_read_request(const uint8_t *input, size_t input_length);
+
+/* What an answer frame says; any number of leading FF is passed over, and the
+ * frame must fill the rest. The address is reported as sent, any byte.
+ *
+ * Refuses, places counting the leading FF, with
+ *   MOOR_FRAME_LENGTH      if fewer than 5 bytes are left;
+ *   MOOR_FRAME_HEAD;
+ *   MOOR_SUBCOMMAND_WRONG  if it is neither 03 nor 04;
+ *   MOOR_FRAME_LENGTH      if not 10 bytes are left for 03, 5 for 04;
+ *   MOOR_FRAME_CHECK;
+ *   MOOR_SERIAL_OVER. */
+moor_answer_read moor_read_answer(const uint8_t *input, size_t input_length);
+
+/* Writes a request frame, MOOR_START or MOOR_CONTINUE: 5 bytes.
+ *
+ * Refuses, every place being 0, with
+ *   MOOR_SUBCOMMAND_WRONG  for any other request;
+ *   MOOR_OUTPUT_SHORT      if the output is under 5 bytes. */
+moor_written moor_write_request(uint8_t request, uint8_t *out, size_t out_length);
+
+/* Writes the answer of a device found: 10 bytes.
+ *
+ * Refuses, every place being 0, with
+ *   MOOR_SERIAL_OVER;
+ *   MOOR_OUTPUT_SHORT  if the output is under 10 bytes. */
+moor_written moor_write_found(uint32_t serial, uint8_t address,
+                              uint8_t *out, size_t out_length);
+
+/* Writes the answer that ends a scan: 5 bytes.
+ *
+ * Refuses with
+ *   MOOR_OUTPUT_SHORT  if the output is under 5 bytes. */
+moor_written moor_write_end(uint8_t *out, size_t out_length);
+
+/* ---- Fast Modbus: the devices' side ------------------------------------- */
+
+/* A device table is three columns: serial, address, and a scanned mark. It is
+ * valid when the columns are equally long, at most MOOR_MOST_DEVICES, the
+ * serials are below 2^28 and differ, and the marks are 0 or 1. Equal addresses
+ * are allowed. Of the three columns the calls below change only the marks. */
+
+/* Whether a device table is valid. */
+bool moor_table_valid(const uint32_t *serials, size_t serials_length,
+                      const uint8_t *addresses, size_t addresses_length,
+                      const uint8_t *marks, size_t marks_length);
+
+/* The contest of 32-bit keys over 32 windows, high bit first: the smallest
+ * remains. A window is dominant when a device that is still in the contest has
+ * a 0 there. Where nobody contends, key and dominant windows are 0. A device's
+ * key is its serial, with the four high bits set once it is scanned. Never
+ * refuses. */
+moor_decided moor_contest(const uint32_t *keys, size_t keys_length);
+
+/* A start: all marks become 0, then all devices contend, and the one that
+ * remains answers and is marked. The answer is one FF for each dominant window
+ * and then the frame; length 0 is silence, which an empty table gives.
+ *
+ * Refuses with
+ *   MOOR_OUTPUT_SHORT     if the answer buffer is under MOOR_ANSWER_ROOM
+ *                         bytes, also where the answer would be shorter;
+ *   MOOR_TABLE_NOT_VALID. */
+moor_written moor_start(const uint32_t *serials, size_t serials_length,
+                        const uint8_t *addresses, size_t addresses_length,
+                        uint8_t *marks, size_t marks_length,
+                        uint8_t *answer, size_t answer_length);
+
+/* A continue: all devices contend with the marks as they stand. A device that
+ * was not marked answers as in a start; one that was answers with the end of
+ * the scan, and nothing changes.
+ *
+ * Refuses as moor_start does. */
+moor_written moor_resume(const uint32_t *serials, size_t serials_length,
+                         const uint8_t *addresses, size_t addresses_length,
+                         uint8_t *marks, size_t marks_length,
+                         uint8_t *answer, size_t answer_length);
+
+/* A raw frame offered to the devices: the start or continue that it names.
+ *
+ * Refuses as moor_start does, and then as moor_read_request does. */
+moor_written moor_offer(const uint8_t *frame, size_t frame_length,
+                        const uint32_t *serials, size_t serials_length,
+                        const uint8_t *addresses, size_t addresses_length,
+                        uint8_t *marks, size_t marks_length,
+                        uint8_t *answer, size_t answer_length);
+
+/* A whole scan: a start, then continues, until the end, silence or `cap`
+ * requests. The serials and addresses heard stand at the start of the two
+ * lists, in the order heard; entries behind them stay. A scan of n devices is
+ * complete after n + 1 requests. With cap 0 nothing is sent and nothing
+ * changes.
+ *
+ * Refuses with
+ *   MOOR_OUTPUT_SHORT     if a list is shorter than the serial column;
+ *   MOOR_TABLE_NOT_VALID. */
+moor_scanned moor_scan(const uint32_t *serials, size_t serials_length,
+                       const uint8_t *addresses, size_t addresses_length,
+                       uint8_t *marks, size_t marks_length,
+                       uint32_t *found_serials, size_t found_serials_length,
+                       uint8_t *found_addresses, size_t found_addresses_length,
+                       size_t cap);
+
+#ifdef __cplusplus
+}
+#endif
+
+#endif

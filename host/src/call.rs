@@ -1,0 +1,259 @@
+//! The calls of the archive over slices: the only place of this crate with
+//! `unsafe` in it. Each function hands its slices on as pointer and length and
+//! does nothing else.
+//!
+//! Why each call is sound: a slice's pointer is valid for the slice's length,
+//! a `&mut` slice overlaps no other slice of the same call, and `sys` asks for
+//! nothing more. A pointer of an empty slice is not read or written through.
+
+use crate::sys;
+
+pub(crate) fn ebus_check(logical: &[u8]) -> u8 {
+    // SAFETY: pointer and length of one slice, which is only read.
+    unsafe { sys::moor_ebus_check(logical.as_ptr(), logical.len()) }
+}
+
+pub(crate) fn modbus_check(bytes: &[u8]) -> u16 {
+    // SAFETY: pointer and length of one slice, which is only read.
+    unsafe { sys::moor_modbus_check(bytes.as_ptr(), bytes.len()) }
+}
+
+pub(crate) fn is_initiator(address: u8) -> bool {
+    // SAFETY: no pointer is handed on.
+    unsafe { sys::moor_is_initiator(address) }
+}
+
+pub(crate) fn is_reserved(address: u8) -> bool {
+    // SAFETY: no pointer is handed on.
+    unsafe { sys::moor_is_reserved(address) }
+}
+
+pub(crate) fn kind(destination: u8) -> u8 {
+    // SAFETY: no pointer is handed on.
+    unsafe { sys::moor_kind(destination) }
+}
+
+pub(crate) fn logical_at(run: &[u8], at: usize) -> sys::Logical {
+    // SAFETY: pointer and length of one slice, which is only read; any
+    // position may be asked for.
+    unsafe { sys::moor_logical_at(run.as_ptr(), run.len(), at) }
+}
+
+pub(crate) fn expand(logical: &[u8], out: &mut [u8]) -> sys::Written {
+    // SAFETY: pointer and length of each slice; `out` overlaps nothing.
+    unsafe { sys::moor_expand(logical.as_ptr(), logical.len(), out.as_mut_ptr(), out.len()) }
+}
+
+pub(crate) fn undo(raw: &[u8], out: &mut [u8]) -> sys::Written {
+    // SAFETY: pointer and length of each slice; `out` overlaps nothing.
+    unsafe { sys::moor_undo(raw.as_ptr(), raw.len(), out.as_mut_ptr(), out.len()) }
+}
+
+pub(crate) fn telegram_at(run: &[u8], command: bool, at: usize) -> sys::Telegram {
+    // SAFETY: pointer and length of one slice, which is only read; any
+    // position may be asked for.
+    unsafe { sys::moor_telegram_at(run.as_ptr(), run.len(), command, at) }
+}
+
+pub(crate) fn check_right(telegram: &[u8]) -> bool {
+    // SAFETY: pointer and length of one slice, which is only read.
+    unsafe { sys::moor_check_right(telegram.as_ptr(), telegram.len()) }
+}
+
+/// `head` is SRC, DST, PB and SB.
+pub(crate) fn write_command(head: [u8; 4], payload: &[u8], out: &mut [u8]) -> sys::Written {
+    let [source, destination, primary, secondary] = head;
+    // SAFETY: pointer and length of each slice; `out` overlaps nothing.
+    unsafe {
+        sys::moor_write_command(
+            source,
+            destination,
+            primary,
+            secondary,
+            payload.as_ptr(),
+            payload.len(),
+            out.as_mut_ptr(),
+            out.len(),
+        )
+    }
+}
+
+pub(crate) fn write_reply(payload: &[u8], out: &mut [u8]) -> sys::Written {
+    // SAFETY: pointer and length of each slice; `out` overlaps nothing.
+    unsafe { sys::moor_write_reply(payload.as_ptr(), payload.len(), out.as_mut_ptr(), out.len()) }
+}
+
+pub(crate) fn judge(
+    run: &[u8],
+    command: &mut [u8],
+    reply_1: &mut [u8],
+    reply_2: &mut [u8],
+) -> sys::Judged {
+    // SAFETY: pointer and length of each slice; the three that are written
+    // overlap nothing.
+    unsafe {
+        sys::moor_judge(
+            run.as_ptr(),
+            run.len(),
+            command.as_mut_ptr(),
+            command.len(),
+            reply_1.as_mut_ptr(),
+            reply_1.len(),
+            reply_2.as_mut_ptr(),
+            reply_2.len(),
+        )
+    }
+}
+
+pub(crate) fn reply_data(reply_1: &[u8], reply_2: &[u8], attempt: u8) -> sys::Part {
+    // SAFETY: pointer and length of each slice; both are only read.
+    unsafe {
+        sys::moor_reply_data(
+            reply_1.as_ptr(),
+            reply_1.len(),
+            reply_2.as_ptr(),
+            reply_2.len(),
+            attempt,
+        )
+    }
+}
+
+pub(crate) fn read_request(input: &[u8]) -> sys::RequestRead {
+    // SAFETY: pointer and length of one slice, which is only read.
+    unsafe { sys::moor_read_request(input.as_ptr(), input.len()) }
+}
+
+pub(crate) fn read_answer(input: &[u8]) -> sys::AnswerRead {
+    // SAFETY: pointer and length of one slice, which is only read.
+    unsafe { sys::moor_read_answer(input.as_ptr(), input.len()) }
+}
+
+pub(crate) fn write_request(request: u8, out: &mut [u8]) -> sys::Written {
+    // SAFETY: pointer and length of one slice, which overlaps nothing.
+    unsafe { sys::moor_write_request(request, out.as_mut_ptr(), out.len()) }
+}
+
+pub(crate) fn write_found(serial: u32, address: u8, out: &mut [u8]) -> sys::Written {
+    // SAFETY: pointer and length of one slice, which overlaps nothing.
+    unsafe { sys::moor_write_found(serial, address, out.as_mut_ptr(), out.len()) }
+}
+
+pub(crate) fn write_end(out: &mut [u8]) -> sys::Written {
+    // SAFETY: pointer and length of one slice, which overlaps nothing.
+    unsafe { sys::moor_write_end(out.as_mut_ptr(), out.len()) }
+}
+
+pub(crate) fn table_valid(serials: &[u32], addresses: &[u8], marks: &[u8]) -> bool {
+    // SAFETY: pointer and length of each slice; all are only read.
+    unsafe {
+        sys::moor_table_valid(
+            serials.as_ptr(),
+            serials.len(),
+            addresses.as_ptr(),
+            addresses.len(),
+            marks.as_ptr(),
+            marks.len(),
+        )
+    }
+}
+
+pub(crate) fn contest(keys: &[u32]) -> sys::Decided {
+    // SAFETY: pointer and length of one slice, which is only read.
+    unsafe { sys::moor_contest(keys.as_ptr(), keys.len()) }
+}
+
+pub(crate) fn start(
+    serials: &[u32],
+    addresses: &[u8],
+    marks: &mut [u8],
+    answer: &mut [u8],
+) -> sys::Written {
+    // SAFETY: pointer and length of each slice; the two that are written
+    // overlap nothing.
+    unsafe {
+        sys::moor_start(
+            serials.as_ptr(),
+            serials.len(),
+            addresses.as_ptr(),
+            addresses.len(),
+            marks.as_mut_ptr(),
+            marks.len(),
+            answer.as_mut_ptr(),
+            answer.len(),
+        )
+    }
+}
+
+pub(crate) fn resume(
+    serials: &[u32],
+    addresses: &[u8],
+    marks: &mut [u8],
+    answer: &mut [u8],
+) -> sys::Written {
+    // SAFETY: pointer and length of each slice; the two that are written
+    // overlap nothing.
+    unsafe {
+        sys::moor_resume(
+            serials.as_ptr(),
+            serials.len(),
+            addresses.as_ptr(),
+            addresses.len(),
+            marks.as_mut_ptr(),
+            marks.len(),
+            answer.as_mut_ptr(),
+            answer.len(),
+        )
+    }
+}
+
+pub(crate) fn offer(
+    frame: &[u8],
+    serials: &[u32],
+    addresses: &[u8],
+    marks: &mut [u8],
+    answer: &mut [u8],
+) -> sys::Written {
+    // SAFETY: pointer and length of each slice; the two that are written
+    // overlap nothing.
+    unsafe {
+        sys::moor_offer(
+            frame.as_ptr(),
+            frame.len(),
+            serials.as_ptr(),
+            serials.len(),
+            addresses.as_ptr(),
+            addresses.len(),
+            marks.as_mut_ptr(),
+            marks.len(),
+            answer.as_mut_ptr(),
+            answer.len(),
+        )
+    }
+}
+
+pub(crate) fn scan(
+    serials: &[u32],
+    addresses: &[u8],
+    marks: &mut [u8],
+    found_serials: &mut [u32],
+    found_addresses: &mut [u8],
+    cap: usize,
+) -> sys::Scanned {
+    // SAFETY: pointer and length of each slice; the three that are written
+    // overlap nothing.
+    unsafe {
+        sys::moor_scan(
+            serials.as_ptr(),
+            serials.len(),
+            addresses.as_ptr(),
+            addresses.len(),
+            marks.as_mut_ptr(),
+            marks.len(),
+            found_serials.as_mut_ptr(),
+            found_serials.len(),
+            found_addresses.as_mut_ptr(),
+            found_addresses.len(),
+            cap,
+        )
+    }
+}

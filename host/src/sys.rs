@@ -1,0 +1,490 @@
+//! The C interface as it stands in `include/moortinker.h`: the same functions
+//! under the same names, the same constants, and the answers without the
+//! prefix `moor_`.
+//!
+//! Use it where a C-like call is wanted; [`ebus`](crate::ebus),
+//! [`modbus`](crate::modbus) and [`devices`](crate::devices) offer every one
+//! of these calls safely.
+//!
+//! # Safety
+//!
+//! What holds for each function that takes a pointer:
+//!
+//! - a pointer is valid for as many elements as the length behind it says;
+//!   with length 0 nothing is read or written through it;
+//! - a buffer that is written overlaps no other buffer of the same call.
+//!
+//! Nothing else is asked. The library keeps no state, so that any calls may
+//! run at the same time on different buffers.
+//!
+//! ```
+//! use moortinker::sys;
+//!
+//! let logical = [0xA9, 0xAA];
+//! let mut out = [0; 4];
+//! // SAFETY: each pointer comes with the length of its own array.
+//! let written =
+//!     unsafe { sys::moor_expand(logical.as_ptr(), logical.len(), out.as_mut_ptr(), out.len()) };
+//! assert_eq!((written.number, written.length), (sys::MOOR_ACCEPTED, 4));
+//! assert_eq!(out, [0xA9, 0x00, 0xA9, 0x01]);
+//! ```
+
+/// Not refused.
+pub const MOOR_ACCEPTED: u8 = 0;
+/// A lent output is shorter than stated.
+pub const MOOR_OUTPUT_SHORT: u8 = 1;
+/// The device table is not valid.
+pub const MOOR_TABLE_NOT_VALID: u8 = 2;
+/// The eBUS run ends too early.
+pub const MOOR_RUN_ENDED: u8 = 3;
+/// The byte after A9 is none of 00, 01, AA.
+pub const MOOR_ESCAPE_WRONG: u8 = 4;
+/// A raw AA where another byte was due.
+pub const MOOR_SYN_EARLY: u8 = 5;
+/// SRC is no initiator address.
+pub const MOOR_SOURCE_WRONG: u8 = 6;
+/// DST is A9 or AA.
+pub const MOOR_DESTINATION_WRONG: u8 = 7;
+/// LEN is over 16.
+pub const MOOR_LENGTH_OVER: u8 = 8;
+/// A wrong check byte in an accepted attempt.
+pub const MOOR_CHECK_WRONG: u8 = 9;
+/// The command was NACKed twice.
+pub const MOOR_COMMAND_NACKED: u8 = 10;
+/// The reply was NACKed twice.
+pub const MOOR_REPLY_NACKED: u8 = 11;
+/// An acknowledge byte that is none of 00, FF, AA, or not AA where SYN is due.
+pub const MOOR_BUS_ERROR: u8 = 12;
+/// The Modbus length is wrong.
+pub const MOOR_FRAME_LENGTH: u8 = 13;
+/// The frame does not begin FD 46.
+pub const MOOR_FRAME_HEAD: u8 = 14;
+/// A subcommand that the call does not take.
+pub const MOOR_SUBCOMMAND_WRONG: u8 = 15;
+/// The Modbus check is wrong.
+pub const MOOR_FRAME_CHECK: u8 = 16;
+/// A serial of 2^28 or more.
+pub const MOOR_SERIAL_OVER: u8 = 17;
+
+/// The destination FE.
+pub const MOOR_BROADCAST: u8 = 1;
+/// The destination is an initiator address.
+pub const MOOR_INITIATOR_INITIATOR: u8 = 2;
+/// Any other destination.
+pub const MOOR_INITIATOR_TARGET: u8 = 3;
+
+/// The request that starts a scan.
+pub const MOOR_START: u8 = 1;
+/// The request that continues a scan.
+pub const MOOR_CONTINUE: u8 = 2;
+
+/// The answer of a device found.
+pub const MOOR_FOUND: u8 = 3;
+/// The answer that ends a scan.
+pub const MOOR_END: u8 = 4;
+
+/// The end of the scan was heard.
+pub const MOOR_COMPLETE: u8 = 1;
+/// Nobody answered.
+pub const MOOR_NOBODY: u8 = 2;
+/// The cap was reached first.
+pub const MOOR_UNFINISHED: u8 = 3;
+
+/// The room that `moor_judge` asks of its command buffer.
+pub const MOOR_COMMAND_ROOM: usize = 22;
+/// The room that `moor_judge` asks of each reply buffer.
+pub const MOOR_REPLY_ROOM: usize = 18;
+/// The room that `moor_start`, `moor_resume` and `moor_offer` ask for.
+pub const MOOR_ANSWER_ROOM: usize = 42;
+/// The longest command on the wire.
+pub const MOOR_COMMAND_WIRE: usize = 41;
+/// The longest reply on the wire.
+pub const MOOR_REPLY_WIRE: usize = 35;
+/// The largest device table.
+pub const MOOR_MOST_DEVICES: usize = 247;
+
+/// What a call that writes gives.
+#[repr(C)]
+#[derive(Clone, Copy, Debug, PartialEq, Eq)]
+pub struct Written {
+    /// The number of the refusal, 0 when accepted.
+    pub number: u8,
+    /// The place of the refusal.
+    pub place: usize,
+    /// How many bytes stand at the start of the output.
+    pub length: usize,
+}
+
+/// A logical byte of a raw run.
+#[repr(C)]
+#[derive(Clone, Copy, Debug, PartialEq, Eq)]
+pub struct Logical {
+    /// The number of the refusal, 0 when accepted.
+    pub number: u8,
+    /// The logical byte.
+    pub byte: u8,
+    /// The place of the refusal.
+    pub place: usize,
+    /// The position behind the byte.
+    pub next: usize,
+}
+
+/// A telegram read from a raw run.
+#[repr(C)]
+#[derive(Clone, Copy, Debug, PartialEq, Eq)]
+pub struct Telegram {
+    /// The number of the refusal, 0 when accepted.
+    pub number: u8,
+    /// The place of the refusal.
+    pub place: usize,
+    /// How many of `bytes` the telegram has, its check byte included.
+    pub length: usize,
+    /// The place of the check byte's first raw byte.
+    pub last: usize,
+    /// The position behind the telegram.
+    pub next: usize,
+    /// The logical bytes; those behind the telegram are 0.
+    pub bytes: [u8; MOOR_COMMAND_ROOM],
+}
+
+/// A judged exchange.
+#[repr(C)]
+#[derive(Clone, Copy, Debug, PartialEq, Eq)]
+pub struct Judged {
+    /// The number of the refusal, 0 when accepted.
+    pub number: u8,
+    /// [`MOOR_BROADCAST`] and so on.
+    pub kind: u8,
+    /// The attempts at the command, 1 or 2.
+    pub command_attempts: u8,
+    /// The attempts at the reply, 0 without a reply.
+    pub reply_attempts: u8,
+    /// The place of the refusal.
+    pub place: usize,
+    /// The raw bytes read, SYN included.
+    pub read: usize,
+}
+
+/// Where a reply's data stands.
+#[repr(C)]
+#[derive(Clone, Copy, Debug, PartialEq, Eq)]
+pub struct Part {
+    /// Which of the two buffers, 1 or 2.
+    pub attempt: u8,
+    /// Where the data starts.
+    pub start: usize,
+    /// How many bytes it has.
+    pub length: usize,
+}
+
+/// A request frame read.
+#[repr(C)]
+#[derive(Clone, Copy, Debug, PartialEq, Eq)]
+pub struct RequestRead {
+    /// The number of the refusal, 0 when accepted.
+    pub number: u8,
+    /// [`MOOR_START`] or [`MOOR_CONTINUE`].
+    pub request: u8,
+    /// The place of the refusal.
+    pub place: usize,
+}
+
+/// An answer frame read.
+#[repr(C)]
+#[derive(Clone, Copy, Debug, PartialEq, Eq)]
+pub struct AnswerRead {
+    /// The number of the refusal, 0 when accepted.
+    pub number: u8,
+    /// [`MOOR_FOUND`] or [`MOOR_END`].
+    pub answer: u8,
+    /// The address of a device found.
+    pub address: u8,
+    /// The serial of a device found.
+    pub serial: u32,
+    /// The place of the refusal.
+    pub place: usize,
+}
+
+/// What a contest gives.
+#[repr(C)]
+#[derive(Clone, Copy, Debug, PartialEq, Eq)]
+pub struct Decided {
+    /// The key that remains.
+    pub key: u32,
+    /// How many windows were dominant.
+    pub dominant: usize,
+}
+
+/// A whole scan.
+#[repr(C)]
+#[derive(Clone, Copy, Debug, PartialEq, Eq)]
+pub struct Scanned {
+    /// The number of the refusal, 0 when accepted.
+    pub number: u8,
+    /// [`MOOR_COMPLETE`] and so on.
+    pub end: u8,
+    /// The place of the refusal.
+    pub place: usize,
+    /// The requests sent.
+    pub requests: usize,
+    /// How many devices were heard.
+    pub found: usize,
+}
+
+extern "C" {
+    /// The eBUS check byte of logical bytes.
+    pub fn moor_ebus_check(logical: *const u8, logical_length: usize) -> u8;
+
+    /// The Modbus check of the bytes.
+    pub fn moor_modbus_check(bytes: *const u8, bytes_length: usize) -> u16;
+
+    /// Whether this is an initiator's address.
+    pub fn moor_is_initiator(address: u8) -> bool;
+
+    /// Whether this is A9 or AA.
+    pub fn moor_is_reserved(address: u8) -> bool;
+
+    /// The kind of an exchange with this destination.
+    pub fn moor_kind(destination: u8) -> u8;
+
+    /// The logical byte at a position of a raw run.
+    pub fn moor_logical_at(run: *const u8, run_length: usize, at: usize) -> Logical;
+
+    /// Writes logical bytes as they go on the wire.
+    pub fn moor_expand(
+        logical: *const u8,
+        logical_length: usize,
+        out: *mut u8,
+        out_length: usize,
+    ) -> Written;
+
+    /// Undoes the escapes of a raw input.
+    pub fn moor_undo(raw: *const u8, raw_length: usize, out: *mut u8, out_length: usize)
+        -> Written;
+
+    /// The command or the reply at a position of a raw run.
+    pub fn moor_telegram_at(
+        run: *const u8,
+        run_length: usize,
+        command: bool,
+        at: usize,
+    ) -> Telegram;
+
+    /// Whether the last of these bytes is the check byte of those before it.
+    pub fn moor_check_right(telegram: *const u8, telegram_length: usize) -> bool;
+
+    /// Writes a command on the wire.
+    pub fn moor_write_command(
+        source: u8,
+        destination: u8,
+        primary: u8,
+        secondary: u8,
+        payload: *const u8,
+        payload_length: usize,
+        out: *mut u8,
+        out_length: usize,
+    ) -> Written;
+
+    /// Writes a reply on the wire.
+    pub fn moor_write_reply(
+        payload: *const u8,
+        payload_length: usize,
+        out: *mut u8,
+        out_length: usize,
+    ) -> Written;
+
+    /// Judges a recorded run from its start.
+    pub fn moor_judge(
+        run: *const u8,
+        run_length: usize,
+        command: *mut u8,
+        command_length: usize,
+        reply_1: *mut u8,
+        reply_1_length: usize,
+        reply_2: *mut u8,
+        reply_2_length: usize,
+    ) -> Judged;
+
+    /// Where the data of the reply attempt asked for stands.
+    pub fn moor_reply_data(
+        reply_1: *const u8,
+        reply_1_length: usize,
+        reply_2: *const u8,
+        reply_2_length: usize,
+        attempt: u8,
+    ) -> Part;
+
+    /// What a request frame asks.
+    pub fn moor_read_request(input: *const u8, input_length: usize) -> RequestRead;
+
+    /// What an answer frame says.
+    pub fn moor_read_answer(input: *const u8, input_length: usize) -> AnswerRead;
+
+    /// Writes a request frame.
+    pub fn moor_write_request(request: u8, out: *mut u8, out_length: usize) -> Written;
+
+    /// Writes the answer of a device found.
+    pub fn moor_write_found(serial: u32, address: u8, out: *mut u8, out_length: usize) -> Written;
+
+    /// Writes the answer that ends a scan.
+    pub fn moor_write_end(out: *mut u8, out_length: usize) -> Written;
+
+    /// Whether a device table is valid.
+    pub fn moor_table_valid(
+        serials: *const u32,
+        serials_length: usize,
+        addresses: *const u8,
+        addresses_length: usize,
+        marks: *const u8,
+        marks_length: usize,
+    ) -> bool;
+
+    /// The contest of keys over 32 windows.
+    pub fn moor_contest(keys: *const u32, keys_length: usize) -> Decided;
+
+    /// A start.
+    pub fn moor_start(
+        serials: *const u32,
+        serials_length: usize,
+        addresses: *const u8,
+        addresses_length: usize,
+        marks: *mut u8,
+        marks_length: usize,
+        answer: *mut u8,
+        answer_length: usize,
+    ) -> Written;
+
+    /// A continue.
+    pub fn moor_resume(
+        serials: *const u32,
+        serials_length: usize,
+        addresses: *const u8,
+        addresses_length: usize,
+        marks: *mut u8,
+        marks_length: usize,
+        answer: *mut u8,
+        answer_length: usize,
+    ) -> Written;
+
+    /// A raw frame offered to the devices.
+    pub fn moor_offer(
+        frame: *const u8,
+        frame_length: usize,
+        serials: *const u32,
+        serials_length: usize,
+        addresses: *const u8,
+        addresses_length: usize,
+        marks: *mut u8,
+        marks_length: usize,
+        answer: *mut u8,
+        answer_length: usize,
+    ) -> Written;
+
+    /// A whole scan.
+    pub fn moor_scan(
+        serials: *const u32,
+        serials_length: usize,
+        addresses: *const u8,
+        addresses_length: usize,
+        marks: *mut u8,
+        marks_length: usize,
+        found_serials: *mut u32,
+        found_serials_length: usize,
+        found_addresses: *mut u8,
+        found_addresses_length: usize,
+        cap: usize,
+    ) -> Scanned;
+}
+
+/// Sizes and offsets, held to what C has on x86-64 Linux. The C example holds
+/// the header to the same numbers.
+#[cfg(test)]
+mod tests {
+    use super::*;
+    use std::mem::{align_of, offset_of, size_of};
+
+    #[test]
+    fn written() {
+        assert_eq!((size_of::<Written>(), align_of::<Written>()), (24, 8));
+        assert_eq!(offset_of!(Written, number), 0);
+        assert_eq!(offset_of!(Written, place), 8);
+        assert_eq!(offset_of!(Written, length), 16);
+    }
+
+    #[test]
+    fn logical() {
+        assert_eq!((size_of::<Logical>(), align_of::<Logical>()), (24, 8));
+        assert_eq!(offset_of!(Logical, number), 0);
+        assert_eq!(offset_of!(Logical, byte), 1);
+        assert_eq!(offset_of!(Logical, place), 8);
+        assert_eq!(offset_of!(Logical, next), 16);
+    }
+
+    #[test]
+    fn telegram() {
+        assert_eq!((size_of::<Telegram>(), align_of::<Telegram>()), (64, 8));
+        assert_eq!(offset_of!(Telegram, number), 0);
+        assert_eq!(offset_of!(Telegram, place), 8);
+        assert_eq!(offset_of!(Telegram, length), 16);
+        assert_eq!(offset_of!(Telegram, last), 24);
+        assert_eq!(offset_of!(Telegram, next), 32);
+        assert_eq!(offset_of!(Telegram, bytes), 40);
+    }
+
+    #[test]
+    fn judged() {
+        assert_eq!((size_of::<Judged>(), align_of::<Judged>()), (24, 8));
+        assert_eq!(offset_of!(Judged, number), 0);
+        assert_eq!(offset_of!(Judged, kind), 1);
+        assert_eq!(offset_of!(Judged, command_attempts), 2);
+        assert_eq!(offset_of!(Judged, reply_attempts), 3);
+        assert_eq!(offset_of!(Judged, place), 8);
+        assert_eq!(offset_of!(Judged, read), 16);
+    }
+
+    #[test]
+    fn part() {
+        assert_eq!((size_of::<Part>(), align_of::<Part>()), (24, 8));
+        assert_eq!(offset_of!(Part, attempt), 0);
+        assert_eq!(offset_of!(Part, start), 8);
+        assert_eq!(offset_of!(Part, length), 16);
+    }
+
+    #[test]
+    fn request_read() {
+        assert_eq!(
+            (size_of::<RequestRead>(), align_of::<RequestRead>()),
+            (16, 8)
+        );
+        assert_eq!(offset_of!(RequestRead, number), 0);
+        assert_eq!(offset_of!(RequestRead, request), 1);
+        assert_eq!(offset_of!(RequestRead, place), 8);
+    }
+
+    #[test]
+    fn answer_read() {
+        assert_eq!((size_of::<AnswerRead>(), align_of::<AnswerRead>()), (16, 8));
+        assert_eq!(offset_of!(AnswerRead, number), 0);
+        assert_eq!(offset_of!(AnswerRead, answer), 1);
+        assert_eq!(offset_of!(AnswerRead, address), 2);
+        assert_eq!(offset_of!(AnswerRead, serial), 4);
+        assert_eq!(offset_of!(AnswerRead, place), 8);
+    }
+
+    #[test]
+    fn decided() {
+        assert_eq!((size_of::<Decided>(), align_of::<Decided>()), (16, 8));
+        assert_eq!(offset_of!(Decided, key), 0);
+        assert_eq!(offset_of!(Decided, dominant), 8);
+    }
+
+    #[test]
+    fn scanned() {
+        assert_eq!((size_of::<Scanned>(), align_of::<Scanned>()), (32, 8));
+        assert_eq!(offset_of!(Scanned, number), 0);
+        assert_eq!(offset_of!(Scanned, end), 1);
+        assert_eq!(offset_of!(Scanned, place), 8);
+        assert_eq!(offset_of!(Scanned, requests), 16);
+        assert_eq!(offset_of!(Scanned, found), 24);
+    }
+}

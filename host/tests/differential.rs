@@ -1,0 +1,170 @@
+//! The archive held against the second implementation, input by input: answers,
+//! refusals with their places, and everything that was lent, with what lies
+//! around it.
+//!
+//! `MOORTINKER_SEED` names another seed than the fixed one, decimal or 0x hex,
+//! and `MOORTINKER_INPUTS` another number of random inputs.
+//! `cargo test --release --test differential -- --nocapture` shows the counts
+//! per function and number.
+
+#[path = "differential/board.rs"]
+mod board;
+#[path = "differential/calls.rs"]
+mod calls;
+#[path = "differential/edges.rs"]
+mod edges;
+#[path = "differential/families.rs"]
+mod families;
+#[path = "differential/inputs.rs"]
+mod inputs;
+#[path = "differential/lent.rs"]
+mod lent;
+#[path = "differential/random.rs"]
+mod random;
+#[path = "differential/session.rs"]
+mod session;
+#[path = "differential/tables.rs"]
+mod tables;
+
+use std::panic::{catch_unwind, AssertUnwindSafe};
+
+use lent::{Lent, MARGIN};
+use moortinker::sys;
+use random::Random;
+use session::{same, Function, Session};
+
+#[test]
+fn archive_and_second_agree() {
+    let mut session = Session::from_environment();
+    println!("seed {:#X}", session.seed());
+    edges::run_all(&mut session);
+    families::run_all(&mut session);
+    session.print();
+    session.assert_all_reached();
+    assert!(session.total() >= session.inputs());
+}
+
+#[test]
+fn a_changed_element_is_a_difference() {
+    let mut random = Random::new(1);
+    for length in [0, 1, 7, 50] {
+        for _ in 0..20 {
+            let lent: Lent<u32> = Lent::filled(&mut random, length);
+            assert_eq!(same("buffer", &lent, &lent.clone()), Ok(()));
+            for at in 0..lent.whole().len() {
+                let mut other = lent.clone();
+                other.whole_mut()[at] ^= 1;
+                assert!(same("buffer", &other, &lent).is_err());
+            }
+        }
+    }
+}
+
+#[test]
+fn margins_and_part_lie_where_the_pointer_says() {
+    let mut random = Random::new(2);
+    let content = [3u8, 1, 4, 1, 5];
+    let mut seen = [0; 3];
+    for _ in 0..200 {
+        let lent = Lent::holding(&mut random, &content);
+        assert_eq!(lent.part(), content);
+        assert_eq!(lent.part().as_ptr(), lent.pointer());
+        assert_eq!(lent.length(), content.len());
+        let around = lent.whole().len() - content.len();
+        let before = lent.part().as_ptr() as usize - lent.whole().as_ptr() as usize;
+        match (before, around - before) {
+            (0, MARGIN) => seen[0] += 1,
+            (MARGIN, 0) => seen[1] += 1,
+            (MARGIN, MARGIN) => seen[2] += 1,
+            other => panic!("margins {other:?}"),
+        }
+    }
+    assert!(seen.iter().all(|&count| count > 0), "{seen:?}");
+}
+
+#[test]
+fn a_changed_answer_is_a_difference() {
+    let answer = sys::Judged {
+        number: 0,
+        kind: 3,
+        command_attempts: 1,
+        reply_attempts: 1,
+        place: 0,
+        read: 13,
+    };
+    assert_eq!(same("answer", &answer, &answer), Ok(()));
+    let changed = [
+        sys::Judged {
+            number: 1,
+            ..answer
+        },
+        sys::Judged { kind: 2, ..answer },
+        sys::Judged {
+            command_attempts: 2,
+            ..answer
+        },
+        sys::Judged {
+            reply_attempts: 2,
+            ..answer
+        },
+        sys::Judged { place: 1, ..answer },
+        sys::Judged { read: 12, ..answer },
+    ];
+    for other in changed {
+        assert!(same("answer", &other, &answer).is_err());
+    }
+}
+
+#[test]
+fn a_difference_ends_the_test_and_says_where() {
+    let mut session = Session::new(0xBEEF, 0);
+    let difference = same("answer", &1, &2);
+    let ended = catch_unwind(AssertUnwindSafe(|| {
+        session.settle(Function::Undo, 0, difference, || "[A9 01]".to_string());
+    }));
+    let payload = ended.expect_err("a difference must end the test");
+    let message = payload.downcast_ref::<String>().expect("a message");
+    for part in [
+        "moor_undo",
+        "[A9 01]",
+        "answer of the archive: 1",
+        "answer of the second:  2",
+        "0xBEEF",
+    ] {
+        assert!(message.contains(part), "{part} is not in {message}");
+    }
+}
+
+#[test]
+#[should_panic(expected = "numbers that moor_ebus_check gave")]
+fn numbers_that_were_not_reached_are_noticed() {
+    Session::new(3, 0).assert_all_reached();
+}
+
+#[test]
+fn buffers_lie_between_closed_pages() {
+    let mut random = Random::new(4);
+    let mut seen = [0; 2];
+    for _ in 0..50 {
+        let lent = Lent::holding(&mut random, &[1u32, 2, 3]);
+        let part = lent.part().as_ptr_range();
+        if closed(part.start as usize - 1) {
+            seen[0] += 1;
+        }
+        if closed(part.end as usize) {
+            seen[1] += 1;
+        }
+    }
+    assert!(seen[0] > 0 && seen[1] > 0, "{seen:?}");
+}
+
+/// Whether the page at this address can be neither read nor written.
+fn closed(address: usize) -> bool {
+    let maps = std::fs::read_to_string("/proc/self/maps").expect("the list of pages");
+    maps.lines().any(|line| {
+        let (range, rest) = line.split_once(' ').expect("a range of addresses");
+        let (start, end) = range.split_once('-').expect("two addresses");
+        let [start, end] = [start, end].map(|text| usize::from_str_radix(text, 16).unwrap());
+        (start..end).contains(&address) && rest.starts_with("---")
+    })
+}

@@ -1,0 +1,244 @@
+//! A run of the tests: its seed, the counts per function and number, and the
+//! comparison of what the archive and the second implementation did.
+
+use std::collections::BTreeMap;
+use std::env;
+use std::fmt::Debug;
+
+use crate::lent::{Element, Lent};
+use crate::random::Random;
+
+/// The seed of a run that names no other.
+const SEED: u64 = 0x000E_B052_0017;
+/// The inputs of a run that asks for no other number.
+const INPUTS: u64 = 6_000_000;
+/// Refusal numbers end here.
+const NUMBERS: usize = 18;
+
+/// Declares the functions of the C interface, each with the numbers that
+/// document 01 and the header let it give.
+macro_rules! functions {
+    ($($function:ident $name:literal [$($number:literal)*])*) => {
+        #[derive(Clone, Copy, Debug, PartialEq, Eq, PartialOrd, Ord)]
+        pub enum Function {
+            $($function,)*
+        }
+
+        /// Name and numbers of each function, in the order of the enum.
+        const FUNCTIONS: &[(Function, &str, &[u8])] = &[
+            $((Function::$function, $name, &[$($number),*]),)*
+        ];
+    };
+}
+
+functions! {
+    EbusCheck "moor_ebus_check" [0]
+    ModbusCheck "moor_modbus_check" [0]
+    IsInitiator "moor_is_initiator" [0]
+    IsReserved "moor_is_reserved" [0]
+    Kind "moor_kind" [0]
+    LogicalAt "moor_logical_at" [0 3 4 5]
+    Expand "moor_expand" [0 1]
+    Undo "moor_undo" [0 1 3 4 5]
+    TelegramAt "moor_telegram_at" [0 3 4 5 6 7 8]
+    CheckRight "moor_check_right" [0]
+    WriteCommand "moor_write_command" [0 1 6 7 8]
+    WriteReply "moor_write_reply" [0 1 8]
+    Judge "moor_judge" [0 1 3 4 5 6 7 8 9 10 11 12]
+    ReplyData "moor_reply_data" [0]
+    ReadRequest "moor_read_request" [0 13 14 15 16]
+    ReadAnswer "moor_read_answer" [0 13 14 15 16 17]
+    WriteRequest "moor_write_request" [0 1 15]
+    WriteFound "moor_write_found" [0 1 17]
+    WriteEnd "moor_write_end" [0 1]
+    TableValid "moor_table_valid" [0]
+    Contest "moor_contest" [0]
+    Start "moor_start" [0 1 2]
+    Resume "moor_resume" [0 1 2]
+    Offer "moor_offer" [0 1 2 13 14 15 16]
+    Scan "moor_scan" [0 1 2]
+}
+
+/// What an accepted answer looked like, in up to three values.
+pub type Form = [u8; 3];
+
+/// The forms of accepted answers that a run must have met.
+const FORMS: &[(Function, &[Form])] = &[
+    (
+        Function::Judge,
+        &[
+            [1, 1, 0],
+            [1, 2, 0],
+            [2, 1, 0],
+            [2, 2, 0],
+            [3, 1, 1],
+            [3, 1, 2],
+            [3, 2, 1],
+            [3, 2, 2],
+        ],
+    ),
+    (Function::ReplyData, &[[1, 0, 0], [1, 1, 0], [2, 1, 0]]),
+    (Function::IsInitiator, &[[0; 3], [1, 0, 0]]),
+    (Function::IsReserved, &[[0; 3], [1, 0, 0]]),
+    (Function::Kind, &[[1, 0, 0], [2, 0, 0], [3, 0, 0]]),
+    (Function::CheckRight, &[[0; 3], [1, 0, 0]]),
+    (Function::ReadRequest, &[[1, 0, 0], [2, 0, 0]]),
+    (Function::ReadAnswer, &[[3, 0, 0], [4, 0, 0]]),
+    (Function::TableValid, &[[0; 3], [1, 0, 0]]),
+    // Silence, an answer 03, an answer 04.
+    (Function::Start, &[[0; 3], [3, 0, 0]]),
+    (Function::Resume, &[[0; 3], [3, 0, 0], [4, 0, 0]]),
+    (Function::Offer, &[[0; 3], [3, 0, 0], [4, 0, 0]]),
+    (Function::Scan, &[[1, 0, 0], [2, 0, 0], [3, 0, 0]]),
+];
+
+/// A run of the tests.
+pub struct Session {
+    pub random: Random,
+    seed: u64,
+    inputs: u64,
+    total: u64,
+    counts: Vec<[u64; NUMBERS]>,
+    forms: BTreeMap<(Function, Form), u64>,
+}
+
+impl Session {
+    /// A run as the environment asks for it.
+    pub fn from_environment() -> Self {
+        let seed = number_from("MOORTINKER_SEED").unwrap_or(SEED);
+        let inputs = number_from("MOORTINKER_INPUTS").unwrap_or(INPUTS);
+        Session::new(seed, inputs)
+    }
+
+    pub fn new(seed: u64, inputs: u64) -> Self {
+        Session {
+            random: Random::new(seed),
+            seed,
+            inputs,
+            total: 0,
+            counts: vec![[0; NUMBERS]; FUNCTIONS.len()],
+            forms: BTreeMap::new(),
+        }
+    }
+
+    pub fn seed(&self) -> u64 {
+        self.seed
+    }
+
+    /// How many inputs the run asks for.
+    pub fn inputs(&self) -> u64 {
+        self.inputs
+    }
+
+    /// How many were compared so far.
+    pub fn total(&self) -> u64 {
+        self.total
+    }
+
+    /// Lends a buffer with this content.
+    pub fn lend<T: Element>(&mut self, content: &[T]) -> Lent<T> {
+        Lent::holding(&mut self.random, content)
+    }
+
+    /// Lends a buffer with random content.
+    pub fn room<T: Element>(&mut self, length: usize) -> Lent<T> {
+        Lent::filled(&mut self.random, length)
+    }
+
+    /// Counts a call that was compared, and ends the test where the two sides
+    /// differ.
+    pub fn settle(
+        &mut self,
+        function: Function,
+        number: u8,
+        compared: Result<(), String>,
+        input: impl FnOnce() -> String,
+    ) {
+        if let Err(difference) = compared {
+            let name = FUNCTIONS[function as usize].1;
+            panic!(
+                "{name} differs\n  input: {}\n{difference}\n  seed: {:#X}, input number {}",
+                input(),
+                self.seed,
+                self.total
+            );
+        }
+        self.total += 1;
+        self.counts[function as usize][usize::from(number)] += 1;
+    }
+
+    /// Notes the form of an accepted answer.
+    pub fn note(&mut self, function: Function, form: Form) {
+        *self.forms.entry((function, form)).or_default() += 1;
+    }
+
+    /// Prints the counts per function and number.
+    pub fn print(&self) {
+        print!("{:20}", "");
+        for number in 0..NUMBERS {
+            print!("{number:>8}");
+        }
+        println!();
+        for &(function, name, _) in FUNCTIONS {
+            print!("{name:20}");
+            for count in self.counts[function as usize] {
+                if count == 0 {
+                    print!("{:>8}", ".");
+                } else {
+                    print!("{count:>8}");
+                }
+            }
+            println!();
+        }
+        for ((function, form), count) in &self.forms {
+            println!("{function:?} {form:?}: {count}");
+        }
+        println!("seed {:#X}, {} inputs compared", self.seed, self.total);
+    }
+
+    /// Every function gave exactly the numbers that it may give, and every form
+    /// of answer was met.
+    pub fn assert_all_reached(&self) {
+        for &(function, name, numbers) in FUNCTIONS {
+            let counts = &self.counts[function as usize];
+            let reached: Vec<u8> = (0..)
+                .zip(counts)
+                .filter(|at| *at.1 > 0)
+                .map(|at| at.0)
+                .collect();
+            assert_eq!(reached, numbers, "numbers that {name} gave");
+        }
+        for &(function, forms) in FORMS {
+            let met: Vec<Form> = self
+                .forms
+                .keys()
+                .filter(|key| key.0 == function)
+                .map(|key| key.1)
+                .collect();
+            assert_eq!(met, forms, "forms of answers of {function:?}");
+        }
+    }
+}
+
+/// Compares one thing that the two sides of a call left.
+pub fn same<T: PartialEq + Debug>(what: &str, archive: &T, second: &T) -> Result<(), String> {
+    if archive == second {
+        return Ok(());
+    }
+    Err(format!(
+        "  {what} of the archive: {archive:?}\n  {what} of the second:  {second:?}"
+    ))
+}
+
+/// A decimal or 0x number of the environment.
+fn number_from(name: &str) -> Option<u64> {
+    let text = env::var(name).ok()?;
+    let read = match text.strip_prefix("0x") {
+        Some(digits) => u64::from_str_radix(digits, 16),
+        None => text.parse(),
+    };
+    match read {
+        Ok(number) => Some(number),
+        Err(_) => panic!("{name} is {text}: neither a decimal nor a 0x number"),
+    }
+}

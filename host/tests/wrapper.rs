@@ -1,0 +1,741 @@
+//! The wrapper held to document 01: the rows marked W, every number with its
+//! place, what stays on a refusal, the edges, and empty inputs.
+
+use std::fmt::Debug;
+
+use moortinker::devices::{
+    contest, Columns, Decided, Device, ScanEnd, Scanned, Table, ANSWER_ROOM, MOST_DEVICES,
+};
+use moortinker::ebus::{self, Command, Kind, COMMAND_ROOM, COMMAND_WIRE, REPLY_ROOM, REPLY_WIRE};
+use moortinker::modbus::{self, Answer, Request};
+use moortinker::{Reason, Refusal};
+
+/// What lent outputs hold before a call.
+const FILL: u8 = 0x5A;
+
+/// The exchange of W7.
+const EXCHANGE: [u8; 13] = [
+    0x10, 0x08, 0xB5, 0x11, 0x01, 0x01, 0x89, 0x00, 0x01, 0x2A, 0xB1, 0x00, 0xAA,
+];
+
+const COMMAND: &[u8] = &[0x10, 0x08, 0xB5, 0x11, 0x01, 0x01, 0x89];
+const COMMAND_WRONG: &[u8] = &[0x10, 0x08, 0xB5, 0x11, 0x01, 0x01, 0x88];
+const REPLY: &[u8] = &[0x01, 0x2A, 0xB1];
+const REPLY_WRONG: &[u8] = &[0x01, 0x2B, 0xB1];
+const ACK: &[u8] = &[0x00];
+const NACK: &[u8] = &[0xFF];
+const SYN: &[u8] = &[0xAA];
+
+const START: [u8; 5] = [0xFD, 0x46, 0x01, 0x13, 0x90];
+const CONTINUE: [u8; 5] = [0xFD, 0x46, 0x02, 0x53, 0x91];
+const END: [u8; 5] = [0xFD, 0x46, 0x04, 0xD3, 0x93];
+const FOUND: [u8; 10] = [0xFD, 0x46, 0x03, 0x00, 0x01, 0xEB, 0x37, 0x0C, 0xCE, 0xDC];
+
+/// Number and place of a refusal.
+type Named = (u8, usize);
+
+/// Number and place of what must be a refusal.
+fn refused<T: Debug>(result: Result<T, Refusal>) -> Named {
+    let refusal = result.unwrap_err();
+    (refusal.number(), refusal.place())
+}
+
+/// The command of W7, with other data.
+fn command(data: &[u8]) -> Command<'_> {
+    Command {
+        source: 0x10,
+        destination: 0x08,
+        primary: 0xB5,
+        secondary: 0x11,
+        data,
+    }
+}
+
+/// The table of W12, with these marks.
+fn three(marks: [u8; 3]) -> Table {
+    Table::new([0x0001EB37, 5, 9], [0x0C, 0x02, 0x03], marks).unwrap()
+}
+
+// ---- The rows marked W ------------------------------------------------------
+
+#[test]
+fn w1_to_w6() {
+    assert_eq!(ebus::check(&[0x10, 0x08, 0xB5, 0x11, 0x01, 0x01]), 0x89);
+    assert_eq!(ebus::check(&[0xAA]), 0xEC);
+    assert_eq!(ebus::check(&[0xA9]), 0xED);
+    assert_eq!(ebus::check(&[]), 0x00);
+    assert_eq!(ebus::expand_to_vec(&[0xA9, 0xAA]), [0xA9, 0x00, 0xA9, 0x01]);
+    assert_eq!(ebus::kind(0xFE), Kind::Broadcast);
+    assert_eq!(ebus::kind(0x10), Kind::InitiatorInitiator);
+    assert_eq!(ebus::kind(0x08), Kind::InitiatorTarget);
+}
+
+#[test]
+fn w7_and_w8() {
+    let exchange = ebus::judge(&EXCHANGE).unwrap();
+    assert_eq!(exchange.kind(), Kind::InitiatorTarget);
+    assert_eq!(exchange.command(), COMMAND);
+    assert_eq!(exchange.reply(1), Some(REPLY));
+    assert_eq!(exchange.data(), [0x2A]);
+    assert_eq!(exchange.command_attempts(), 1);
+    assert_eq!(exchange.reply_attempts(), 1);
+    assert_eq!(exchange.bytes_read(), 13);
+
+    let mut run = EXCHANGE;
+    run[7] = 0x55;
+    assert_eq!(refused(ebus::judge(&run)), (12, 7));
+}
+
+#[test]
+fn w9_to_w11() {
+    assert_eq!(Request::Start.frame(), START);
+    assert_eq!(Request::Continue.frame(), CONTINUE);
+    assert_eq!(modbus::read_request(&START), Ok(Request::Start));
+    assert_eq!(modbus::read_request(&CONTINUE), Ok(Request::Continue));
+    assert_eq!(modbus::read_answer(&END), Ok(Answer::End));
+    let found = Answer::Found {
+        serial: 0x0001EB37,
+        address: 0x0C,
+    };
+    assert_eq!(modbus::read_answer(&FOUND), Ok(found));
+    let mut out = [FILL; 12];
+    assert_eq!(modbus::write_answer(found, &mut out), Ok(10));
+    assert_eq!((&out[..10], &out[10..]), (&FOUND[..], &[FILL; 2][..]));
+    let mut out = [FILL; 6];
+    assert_eq!(modbus::write_answer(Answer::End, &mut out), Ok(5));
+    assert_eq!((&out[..5], out[5]), (&END[..], FILL));
+}
+
+#[test]
+fn w12_to_w14() {
+    let scan = three([0, 0, 0]).scan(100);
+    assert_eq!((scan.end(), scan.requests()), (ScanEnd::Complete, 4));
+    assert_eq!(scan.serials(), [5, 9, 0x0001EB37]);
+    assert_eq!(scan.addresses(), [0x02, 0x03, 0x0C]);
+
+    let mut table = three([0, 0, 0]);
+    let scan = table.scan(3);
+    assert_eq!((scan.end(), scan.requests()), (ScanEnd::Unfinished, 3));
+    assert_eq!(scan.serials(), [5, 9, 0x0001EB37]);
+    assert_eq!(table.marks(), [1, 1, 1]);
+
+    let scan = Table::default().scan(1);
+    assert_eq!((scan.end(), scan.requests()), (ScanEnd::Nobody, 1));
+    assert_eq!(scan.heard().len(), 0);
+}
+
+// ---- Refusals as values -----------------------------------------------------
+
+#[test]
+fn a_reason_and_its_number_name_each_other() {
+    for (index, &reason) in Reason::ALL.iter().enumerate() {
+        assert_eq!(usize::from(reason.number()), index + 1);
+        assert_eq!(Reason::from_number(reason.number()), Some(reason));
+    }
+    assert_eq!(Reason::from_number(0), None);
+    assert!((18..=u8::MAX).all(|number| Reason::from_number(number).is_none()));
+}
+
+#[test]
+fn a_refusal_is_an_error_with_plain_text() {
+    let error: Box<dyn std::error::Error + Send + Sync> =
+        Box::new(ebus::judge(&EXCHANGE[..8]).unwrap_err());
+    assert_eq!(
+        error.to_string(),
+        "refused with 3 at 8: the run ends too early"
+    );
+    let texts: std::collections::HashSet<String> =
+        Reason::ALL.iter().map(Reason::to_string).collect();
+    assert_eq!(texts.len(), Reason::ALL.len());
+}
+
+// ---- eBUS: escapes and addresses --------------------------------------------
+
+#[test]
+fn expanding_asks_for_the_exact_length() {
+    let mut out = [FILL; 6];
+    let logical = [0x10, 0xA9, 0xAA];
+    assert_eq!(refused(ebus::expand(&logical, &mut out[..4])), (1, 0));
+    assert_eq!(out, [FILL; 6]);
+    assert_eq!(ebus::expand(&logical, &mut out[..5]), Ok(5));
+    assert_eq!(out, [0x10, 0xA9, 0x00, 0xA9, 0x01, FILL]);
+}
+
+#[test]
+fn undoing_refuses_a_fault_anywhere_before_a_short_output() {
+    let mut out = [FILL; 4];
+    let cases: [(&[u8], Named); 6] = [
+        (&[0x10, 0xA9], (3, 2)),
+        (&[0x10, 0xA9, 0x02], (4, 2)),
+        (&[0x10, 0xA9, 0xAA], (5, 2)),
+        (&[0x10, 0x11, 0x12, 0x13, 0x14, 0xAA], (5, 5)),
+        (&[0x10, 0xAA, 0xA9], (5, 1)),
+        (&[0x10, 0x11, 0x12, 0x13, 0x14], (1, 0)),
+    ];
+    for (raw, refusal) in cases {
+        assert_eq!(refused(ebus::undo(raw, &mut out)), refusal, "{raw:02X?}");
+        assert_eq!(out, [FILL; 4]);
+    }
+    assert_eq!(ebus::undo(&[0xA9, 0x01, 0x10], &mut out), Ok(2));
+    assert_eq!(out, [0xAA, 0x10, FILL, FILL]);
+}
+
+#[test]
+fn undoing_gives_back_what_was_expanded() {
+    let logical: Vec<u8> = (0..=0xFF).collect();
+    let raw = ebus::expand_to_vec(&logical);
+    assert_eq!(raw.len(), 258);
+    assert_eq!(ebus::undo_to_vec(&raw), Ok(logical));
+}
+
+#[test]
+fn a_logical_byte_at_any_position() {
+    let run = [0x10, 0xA9, 0x00, 0xA9, 0x01, 0xAA, 0xA9, 0x55, 0xA9];
+    let at = |position| ebus::logical_at(&run, position);
+    assert_eq!(
+        at(0).map(|logical| (logical.byte, logical.next)),
+        Ok((0x10, 1))
+    );
+    assert_eq!(
+        at(1).map(|logical| (logical.byte, logical.next)),
+        Ok((0xA9, 3))
+    );
+    assert_eq!(
+        at(3).map(|logical| (logical.byte, logical.next)),
+        Ok((0xAA, 5))
+    );
+    assert_eq!(refused(at(5)), (5, 5));
+    assert_eq!(refused(at(6)), (4, 7));
+    assert_eq!(refused(at(8)), (3, 9));
+    assert_eq!(refused(at(9)), (3, 9));
+    assert_eq!(refused(at(usize::MAX)), (3, 9));
+}
+
+#[test]
+fn addresses() {
+    let nibble = |nibble: u8| matches!(nibble, 0 | 1 | 3 | 7 | 0xF);
+    for address in 0..=0xFF {
+        let initiator = nibble(address >> 4) && nibble(address & 0xF);
+        assert_eq!(ebus::is_initiator(address), initiator);
+        assert_eq!(ebus::is_reserved(address), matches!(address, 0xA9 | 0xAA));
+        let kind = match address {
+            0xFE => Kind::Broadcast,
+            _ if initiator => Kind::InitiatorInitiator,
+            _ => Kind::InitiatorTarget,
+        };
+        assert_eq!(ebus::kind(address), kind);
+    }
+}
+
+// ---- eBUS: telegrams --------------------------------------------------------
+
+#[test]
+fn telegrams_are_read_at_a_position() {
+    let read = ebus::read_command(&EXCHANGE, 0).unwrap();
+    assert_eq!((read.bytes(), read.data()), (COMMAND, &[0x01][..]));
+    assert_eq!((read.check_place(), read.next()), (6, 7));
+    assert!(read.is_check_right());
+    let read = ebus::read_reply(&EXCHANGE, 8).unwrap();
+    assert_eq!((read.bytes(), read.data()), (REPLY, &[0x2A][..]));
+    assert_eq!((read.check_place(), read.next()), (10, 11));
+    assert!(read.is_check_right());
+    assert!(!ebus::read_reply(REPLY_WRONG, 0).unwrap().is_check_right());
+    assert!(ebus::check_right(COMMAND) && !ebus::check_right(COMMAND_WRONG));
+    assert!(!ebus::check_right(&[]));
+}
+
+#[test]
+fn telegrams_refused() {
+    let cases: [(&[u8], Named); 12] = [
+        (&[], (3, 0)),
+        (&[0x10, 0x08], (3, 2)),
+        (&[0x10, 0x08, 0xB5, 0x11, 0x01, 0xA9, 0x02], (4, 6)),
+        (&[0x10, 0xAA], (5, 1)),
+        (&[0x12], (6, 0)),
+        (&[0xA9, 0x00], (6, 0)),
+        (&[0xA9, 0x55], (4, 1)),
+        (&[0x10, 0xA9, 0x01], (7, 1)),
+        (&[0x10, 0xA9, 0x00], (7, 1)),
+        (&[0x10, 0x08, 0xB5, 0x11, 0x11], (8, 4)),
+        (&[0x10, 0x08, 0xA9, 0x00, 0x11, 0xA9, 0x00], (8, 5)),
+        (&[0x10, 0x08, 0xB5, 0x11, 0xA9, 0xAA], (5, 5)),
+    ];
+    for (run, refusal) in cases {
+        assert_eq!(refused(ebus::read_command(run, 0)), refusal, "{run:02X?}");
+    }
+    assert_eq!(refused(ebus::read_reply(&[0x11], 0)), (8, 0));
+    assert_eq!(refused(ebus::read_reply(&[0x01, 0xAA], 0)), (5, 1));
+    assert_eq!(refused(ebus::read_reply(REPLY, 4)), (3, 3));
+}
+
+#[test]
+fn writing_a_command() {
+    let mut out = [FILL; 9];
+    let wrong = |source, destination, data| Command {
+        source,
+        destination,
+        ..command(data)
+    };
+    let long = [0; 17];
+    let cases = [
+        (wrong(0x12, 0xAA, &long[..]), (6, 0)),
+        (wrong(0x10, 0xAA, &long[..]), (7, 0)),
+        (wrong(0x10, 0xA9, &[]), (7, 0)),
+        (wrong(0x10, 0x08, &long[..]), (8, 0)),
+        (wrong(0x10, 0x08, &[0x01, 0x02, 0x03, 0x04]), (1, 0)),
+    ];
+    for (command, refusal) in cases {
+        assert_eq!(refused(ebus::write_command(&command, &mut out)), refusal);
+        assert_eq!(out, [FILL; 9]);
+    }
+    assert_eq!(ebus::write_command(&command(&[0x01]), &mut out), Ok(7));
+    assert_eq!((&out[..7], &out[7..]), (COMMAND, &[FILL; 2][..]));
+}
+
+#[test]
+fn writing_a_reply() {
+    let mut out = [FILL; 4];
+    assert_eq!(refused(ebus::write_reply(&[0; 17], &mut out)), (8, 0));
+    assert_eq!(refused(ebus::write_reply(&[0; 3], &mut out)), (1, 0));
+    assert_eq!(refused(ebus::write_reply(&[0x2A], &mut out[..2])), (1, 0));
+    assert_eq!(out, [FILL; 4]);
+    assert_eq!(ebus::write_reply(&[0x2A], &mut out), Ok(3));
+    assert_eq!((&out[..3], out[3]), (REPLY, FILL));
+}
+
+#[test]
+fn the_longest_telegrams_on_the_wire() {
+    let longest = Command {
+        source: 0x10,
+        destination: 0x07,
+        primary: 0xA9,
+        secondary: 0xAA,
+        data: &[0xAA; 16],
+    };
+    let raw = ebus::write_command_to_vec(&longest).unwrap();
+    assert_eq!(raw.len(), COMMAND_WIRE);
+    let read = ebus::read_command(&raw, 0).unwrap();
+    assert_eq!((read.data(), read.next()), (&[0xAA; 16][..], COMMAND_WIRE));
+
+    let mut data = [0xAA; 16];
+    (data[0], data[1], data[4]) = (0xA9, 0xA9, 0xA9);
+    let raw = ebus::write_reply_to_vec(&data).unwrap();
+    assert_eq!(raw.len(), REPLY_WIRE);
+    assert_eq!(ebus::read_reply(&raw, 0).unwrap().data(), data);
+}
+
+// ---- eBUS: exchanges --------------------------------------------------------
+
+#[test]
+fn exchanges_refused() {
+    let cases: [(&[&[u8]], Named); 15] = [
+        (&[], (3, 0)),
+        (&[COMMAND, ACK, REPLY, ACK], (3, 12)),
+        (&[COMMAND, SYN], (5, 7)),
+        (&[COMMAND, ACK, SYN], (5, 8)),
+        (&[COMMAND, ACK, REPLY, SYN], (5, 11)),
+        (&[COMMAND_WRONG, ACK], (9, 6)),
+        (&[COMMAND_WRONG, SYN], (5, 7)),
+        (&[COMMAND_WRONG, &[0x55]], (12, 7)),
+        (&[COMMAND, ACK, REPLY_WRONG, ACK, SYN], (9, 10)),
+        (&[COMMAND, NACK, COMMAND, NACK], (10, 15)),
+        (&[COMMAND, ACK, REPLY, NACK, REPLY, NACK], (11, 15)),
+        (&[COMMAND, &[0xA9]], (12, 7)),
+        (&[COMMAND, ACK, REPLY, &[0x01]], (12, 11)),
+        (&[COMMAND, ACK, REPLY, ACK, &[0x00]], (12, 12)),
+        (&[&[0x10, 0xFE, 0xB5, 0x11, 0x01, 0x01, 0x11]], (9, 6)),
+    ];
+    for (parts, refusal) in cases {
+        let run = parts.concat();
+        assert_eq!(refused(ebus::judge(&run)), refusal, "{run:02X?}");
+    }
+}
+
+#[test]
+fn a_refusal_leaves_the_buffers() {
+    let (mut command, mut reply_1, mut reply_2) =
+        ([FILL; COMMAND_ROOM], [FILL; REPLY_ROOM], [FILL; REPLY_ROOM]);
+    let run = [COMMAND, ACK, REPLY, NACK, REPLY, NACK].concat();
+    let judged = ebus::judge_into(&run, &mut command, &mut reply_1, &mut reply_2);
+    assert_eq!(refused(judged), (11, 15));
+    let rooms = [(21, 18, 18), (22, 17, 18), (22, 18, 17), (0, 0, 0)];
+    for (first, second, third) in rooms {
+        let judged = ebus::judge_into(
+            &EXCHANGE,
+            &mut command[..first],
+            &mut reply_1[..second],
+            &mut reply_2[..third],
+        );
+        assert_eq!(refused(judged), (1, 0));
+    }
+    assert_eq!(command, [FILL; COMMAND_ROOM]);
+    assert_eq!((reply_1, reply_2), ([FILL; REPLY_ROOM], [FILL; REPLY_ROOM]));
+}
+
+#[test]
+fn lent_buffers_keep_what_is_behind_a_telegram() {
+    let (mut command, mut reply_1, mut reply_2) = ([FILL; 30], [FILL; 20], [FILL; 18]);
+    let judged = ebus::judge_into(&EXCHANGE, &mut command, &mut reply_1, &mut reply_2).unwrap();
+    assert_eq!(judged, ebus::judge(&EXCHANGE).unwrap().judged());
+    assert_eq!((&command[..7], &command[7..]), (COMMAND, &[FILL; 23][..]));
+    assert_eq!((&reply_1[..3], &reply_1[3..]), (REPLY, &[FILL; 17][..]));
+    assert_eq!(reply_2, [FILL; 18]);
+    assert_eq!(ebus::reply_data(&reply_1, &reply_2, 1), [0x2A]);
+}
+
+#[test]
+fn both_are_nacked_once() {
+    let run = [
+        COMMAND_WRONG,
+        NACK,
+        COMMAND,
+        ACK,
+        REPLY_WRONG,
+        NACK,
+        REPLY,
+        ACK,
+        SYN,
+        NACK,
+    ]
+    .concat();
+    let exchange = ebus::judge(&run).unwrap();
+    assert_eq!(exchange.command(), COMMAND);
+    assert_eq!(exchange.command_attempts(), 2);
+    assert_eq!(exchange.reply_attempts(), 2);
+    assert_eq!(exchange.reply(0), None);
+    assert_eq!(exchange.reply(1), Some(REPLY_WRONG));
+    assert_eq!(exchange.reply(2), Some(REPLY));
+    assert_eq!(exchange.reply(3), None);
+    assert_eq!(exchange.data(), [0x2A]);
+    assert_eq!(exchange.bytes_read(), run.len() - 1);
+}
+
+#[test]
+fn an_exchange_without_a_reply() {
+    let broadcast = [0x10, 0xFE, 0xB5, 0x11, 0x01, 0x01, 0x10, 0xAA];
+    let to_initiator = [0x10, 0x03, 0xB5, 0x11, 0x01, 0x01, 0x3A, 0x00, 0xAA];
+    let runs: [(&[u8], Kind); 2] = [
+        (&broadcast, Kind::Broadcast),
+        (&to_initiator, Kind::InitiatorInitiator),
+    ];
+    for (run, kind) in runs {
+        let exchange = ebus::judge(run).unwrap();
+        assert_eq!(exchange.kind(), kind);
+        assert_eq!(exchange.command(), &run[..7]);
+        assert_eq!(exchange.reply_attempts(), 0);
+        assert_eq!((exchange.reply(1), exchange.reply(2)), (None, None));
+        assert!(exchange.data().is_empty());
+        assert_eq!(exchange.bytes_read(), run.len());
+    }
+}
+
+#[test]
+fn every_prefix_ends_too_early() {
+    for length in 0..EXCHANGE.len() {
+        assert_eq!(refused(ebus::judge(&EXCHANGE[..length])), (3, length));
+    }
+}
+
+#[test]
+fn written_telegrams_are_judged_as_what_went_in() {
+    for length in 0..=16u8 {
+        let sent: Vec<u8> = (0..length).map(|index| 0xA0 + index).collect();
+        let answered: Vec<u8> = sent.iter().rev().copied().collect();
+        let mut run = ebus::write_command_to_vec(&command(&sent)).unwrap();
+        run.push(0x00);
+        run.extend(ebus::write_reply_to_vec(&answered).unwrap());
+        run.extend([0x00, 0xAA]);
+        let exchange = ebus::judge(&run).unwrap();
+        let command = exchange.command();
+        assert_eq!(command[..5], [0x10, 0x08, 0xB5, 0x11, length]);
+        assert_eq!(command[5..command.len() - 1], sent);
+        assert_eq!(exchange.data(), answered);
+        assert_eq!(exchange.bytes_read(), run.len());
+    }
+}
+
+#[test]
+fn reply_data_looks_at_length_and_buffer_only() {
+    let sixteen = [0x10; 17];
+    assert_eq!(ebus::reply_data(&sixteen, &[], 1), [0x10; 16]);
+    assert_eq!(ebus::reply_data(&[], &sixteen, 2), [0x10; 16]);
+    assert!(ebus::reply_data(&sixteen[..16], &[], 1).is_empty());
+    assert!(ebus::reply_data(&[0x11; 20], &[], 1).is_empty());
+    assert!(ebus::reply_data(&[0x00, 0x2A], &[], 1).is_empty());
+    for attempt in [0, 3, 0xFF] {
+        assert!(ebus::reply_data(&sixteen, &sixteen, attempt).is_empty());
+    }
+}
+
+// ---- Fast Modbus: frames ----------------------------------------------------
+
+#[test]
+fn requests_refused() {
+    let cases: [(&[u8], Named); 9] = [
+        (&[], (13, 0)),
+        (&START[..4], (13, 0)),
+        (&[0xFF, 0xFD, 0x46, 0x01, 0x13, 0x90], (14, 0)),
+        (&[0xFC, 0x46, 0x01, 0x13, 0x90], (14, 0)),
+        (&[0xFD, 0x47, 0x01, 0x13, 0x90], (14, 1)),
+        (&[0xFD, 0x46, 0x03, 0x92, 0x51], (15, 2)),
+        (&[0xFD, 0x46, 0x01, 0x13, 0x90, 0x00], (13, 0)),
+        (&[0xFD, 0x46, 0x01, 0x14, 0x90], (16, 3)),
+        (&[0xFD, 0x46, 0x01, 0x13, 0x91], (16, 3)),
+    ];
+    for (frame, refusal) in cases {
+        assert_eq!(refused(modbus::read_request(frame)), refusal);
+    }
+}
+
+#[test]
+fn answers_refused() {
+    let cases: [(&[u8], Named); 9] = [
+        (&[], (13, 0)),
+        (&[0xFF; 40], (13, 0)),
+        (&[0xFF, 0xFF, 0xFE, 0x46, 0x04, 0xD3, 0x93], (14, 2)),
+        (&[0xFF, 0xFD, 0x47, 0x04, 0xD3, 0x93], (14, 2)),
+        (&START, (15, 2)),
+        (&FOUND[..9], (13, 0)),
+        (&[0xFF, 0xFD, 0x46, 0x04, 0xD3, 0x94], (16, 4)),
+        (
+            &[0xFD, 0x46, 0x03, 0x00, 0x01, 0xEB, 0x37, 0x0C, 0xCE, 0xDD],
+            (16, 8),
+        ),
+        (
+            &[
+                0xFF, 0xFD, 0x46, 0x03, 0x10, 0x00, 0x00, 0x00, 0x01, 0xA9, 0x22,
+            ],
+            (17, 4),
+        ),
+    ];
+    for (frame, refusal) in cases {
+        assert_eq!(refused(modbus::read_answer(frame)), refusal);
+    }
+}
+
+#[test]
+fn any_number_of_leading_ff_is_passed_over() {
+    for count in [0, 1, 32, 33, 1000] {
+        let input = [vec![0xFF; count], END.to_vec()].concat();
+        assert_eq!(modbus::read_answer(&input), Ok(Answer::End));
+    }
+}
+
+#[test]
+fn writing_frames() {
+    let mut out = [FILL; 10];
+    assert_eq!(
+        refused(modbus::write_request(Request::Start, &mut out[..4])),
+        (1, 0)
+    );
+    assert_eq!(refused(modbus::write_end(&mut out[..4])), (1, 0));
+    assert_eq!(refused(modbus::write_found(5, 1, &mut out[..9])), (1, 0));
+    assert_eq!(
+        refused(modbus::write_found(1 << 28, 1, &mut out[..9])),
+        (17, 0)
+    );
+    assert_eq!(refused(modbus::write_found(u32::MAX, 1, &mut out)), (17, 0));
+    assert_eq!(out, [FILL; 10]);
+    for serial in [0, 5, 0x0FFFFFFF] {
+        assert_eq!(modbus::write_found(serial, 0xA9, &mut out), Ok(10));
+        let address = 0xA9;
+        assert_eq!(
+            modbus::read_answer(&out),
+            Ok(Answer::Found { serial, address })
+        );
+    }
+}
+
+// ---- Devices ----------------------------------------------------------------
+
+#[test]
+fn tables_that_are_not_valid() {
+    let serials: Vec<u32> = (0..=MOST_DEVICES as u32).collect();
+    let (addresses, marks) = (vec![1; 248], vec![0; 248]);
+    assert!(Table::new(&serials[..247], &addresses[..247], &marks[..247]).is_ok());
+    let refusals = [
+        refused(Table::new(&serials[..], &addresses[..], &marks[..])),
+        refused(Table::new([5, 5], [1, 2], [0, 0])),
+        refused(Table::new([1 << 28], [1], [0])),
+        refused(Table::new([5], [1], [2])),
+        refused(Table::new([5], [1], [])),
+        refused(Table::new([5], [], [0])),
+        refused(Table::new([], [1], [0])),
+    ];
+    assert_eq!(refusals, [(2, 0); 7]);
+    assert!(Table::new([0x0FFFFFFF], [0xFF], [1]).is_ok());
+}
+
+#[test]
+fn a_table_shows_its_columns() {
+    let table = three([0, 1, 0]);
+    assert_eq!((table.len(), table.is_empty()), (3, false));
+    assert_eq!(table.serials(), [0x0001EB37, 5, 9]);
+    assert_eq!(table.addresses(), [0x0C, 0x02, 0x03]);
+    assert_eq!(table.marks(), [0, 1, 0]);
+    let again = Table::unscanned(table.devices()).unwrap();
+    assert_eq!(again, three([0, 0, 0]));
+    assert!(Table::default().is_empty());
+}
+
+#[test]
+fn a_start_then_continues() {
+    let mut table = three([1, 1, 1]);
+    let mut heard = vec![table.start().unwrap()];
+    heard.extend((0..4).map(|_| table.resume().unwrap()));
+    let answers: Vec<Answer> = heard
+        .iter()
+        .map(|reply| modbus::read_answer(reply.bytes()).unwrap())
+        .collect();
+    let found = |serial, address| Answer::Found { serial, address };
+    let expected = [
+        found(5, 0x02),
+        found(9, 0x03),
+        found(0x0001EB37, 0x0C),
+        Answer::End,
+        Answer::End,
+    ];
+    assert_eq!(answers, expected);
+    // One FF for each zero bit of the winner's key; a scanned one has four
+    // ones before its serial.
+    let fill: Vec<usize> = heard
+        .iter()
+        .map(|reply| {
+            reply
+                .bytes()
+                .iter()
+                .take_while(|&&byte| byte == 0xFF)
+                .count()
+        })
+        .collect();
+    assert_eq!(fill, [30, 30, 20, 26, 26]);
+    assert_eq!(table.marks(), [1, 1, 1]);
+}
+
+#[test]
+fn offered_frames() {
+    let mut table = three([1, 1, 1]);
+    let mut called = table.clone();
+    assert_eq!(table.offer(&CONTINUE), Ok(called.resume()));
+    assert_eq!(table.offer(&START), Ok(called.start()));
+    assert_eq!(table, called);
+    assert_eq!(refused(table.offer(&END)), (15, 2));
+    assert_eq!(refused(table.offer(&[])), (13, 0));
+    assert_eq!(
+        refused(table.offer(&[0xFD, 0x46, 0x02, 0x53, 0x90])),
+        (16, 3)
+    );
+    assert_eq!(table, called);
+    assert_eq!(Table::default().offer(&START), Ok(None));
+    assert_eq!(Table::default().resume(), None);
+}
+
+#[test]
+fn lent_columns_answer_as_the_table_does() {
+    let mut table = three([0, 1, 0]);
+    let mut marks = [0, 1, 0];
+    let mut lent = Columns {
+        serials: &[0x0001EB37, 5, 9],
+        addresses: &[0x0C, 0x02, 0x03],
+        marks: &mut marks,
+    };
+    let mut answer = [FILL; ANSWER_ROOM + 1];
+    let length = lent.resume(&mut answer).unwrap();
+    assert_eq!(&answer[..length], table.resume().unwrap().as_ref());
+    assert!(answer[length..].iter().all(|&byte| byte == FILL));
+    assert_eq!(lent.marks, table.marks());
+    let length = lent.offer(&START, &mut answer).unwrap();
+    assert_eq!(&answer[..length], table.start().unwrap().as_ref());
+    assert_eq!(lent.marks, table.marks());
+}
+
+#[test]
+fn lent_columns_refuse_short_answers_then_the_table_then_the_frame() {
+    let mut marks = [2, 0];
+    let mut lent = Columns {
+        serials: &[5, 9],
+        addresses: &[1, 2],
+        marks: &mut marks,
+    };
+    let mut answer = [FILL; ANSWER_ROOM];
+    for room in [0, 41] {
+        assert_eq!(refused(lent.start(&mut answer[..room])), (1, 0));
+        assert_eq!(refused(lent.resume(&mut answer[..room])), (1, 0));
+        assert_eq!(refused(lent.offer(&[], &mut answer[..room])), (1, 0));
+    }
+    assert_eq!(refused(lent.start(&mut answer)), (2, 0));
+    assert_eq!(refused(lent.resume(&mut answer)), (2, 0));
+    assert_eq!(refused(lent.offer(&[], &mut answer)), (2, 0));
+    assert_eq!(refused(lent.scan(&mut [0; 1], &mut [0; 2], 9)), (1, 0));
+    assert_eq!(refused(lent.scan(&mut [0; 2], &mut [0; 1], 9)), (1, 0));
+    assert_eq!(refused(lent.scan(&mut [0; 2], &mut [0; 2], 0)), (2, 0));
+    assert_eq!(lent.marks, [2, 0]);
+    lent.marks[0] = 0;
+    assert_eq!(refused(lent.offer(&[], &mut answer)), (13, 0));
+    assert_eq!((answer, marks), ([FILL; ANSWER_ROOM], [0, 0]));
+}
+
+#[test]
+fn a_scan_keeps_entries_behind_those_heard() {
+    let mut marks = [1, 1, 1];
+    let mut lent = Columns {
+        serials: &[7, 5, 9],
+        addresses: &[0x0C, 0x02, 0x03],
+        marks: &mut marks,
+    };
+    let (mut serials, mut addresses) = ([1000; 4], [FILL; 5]);
+    let scanned = |end, requests, found| Scanned {
+        end,
+        requests,
+        found,
+    };
+    let none = lent.scan(&mut serials, &mut addresses, 0);
+    assert_eq!(none, Ok(scanned(ScanEnd::Unfinished, 0, 0)));
+    assert_eq!((&*lent.marks, serials), (&[1, 1, 1][..], [1000; 4]));
+    let two = lent.scan(&mut serials, &mut addresses, 2);
+    assert_eq!(two, Ok(scanned(ScanEnd::Unfinished, 2, 2)));
+    assert_eq!(lent.marks, [1, 1, 0]);
+    assert_eq!(serials, [5, 7, 1000, 1000]);
+    assert_eq!(addresses, [0x02, 0x0C, FILL, FILL, FILL]);
+}
+
+#[test]
+fn the_largest_table_is_scanned() {
+    let devices = (0..MOST_DEVICES as u32).rev().map(|index| Device {
+        serial: 0x0FFFFFFF - 1000 * index,
+        address: index as u8,
+    });
+    let mut table = Table::unscanned(devices).unwrap();
+    let scan = table.scan(usize::MAX);
+    assert_eq!((scan.end(), scan.requests()), (ScanEnd::Complete, 248));
+    assert!(scan.heard().eq(table.devices()));
+    assert!(table.marks().iter().all(|&mark| mark == 1));
+}
+
+#[test]
+fn heard_is_an_iterator_of_exact_size() {
+    let scan = three([0, 0, 0]).scan(100);
+    let mut heard = scan.heard();
+    assert_eq!((heard.len(), heard.size_hint()), (3, (3, Some(3))));
+    let device = |serial, address| Some(Device { serial, address });
+    assert_eq!(heard.next(), device(5, 0x02));
+    assert_eq!((heard.len(), heard.clone().count()), (2, 2));
+    assert_eq!(heard.next_back(), device(0x0001EB37, 0x0C));
+    assert_eq!(heard.next(), device(9, 0x03));
+    assert_eq!(
+        (heard.next(), heard.next_back(), heard.len()),
+        (None, None, 0)
+    );
+    let all: Vec<Device> = (&scan).into_iter().collect();
+    assert_eq!(all.len(), 3);
+}
+
+#[test]
+fn contests() {
+    assert_eq!(contest(&[]), None);
+    let decided = |key, dominant| Some(Decided { key, dominant });
+    assert_eq!(contest(&[0]), decided(0, 32));
+    assert_eq!(contest(&[u32::MAX]), decided(u32::MAX, 0));
+    assert_eq!(contest(&[0xF001EB37, 0x0001EB37]), decided(0x0001EB37, 20));
+    assert_eq!(contest(&[7; 300]), decided(7, 29));
+}
