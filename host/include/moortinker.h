@@ -38,7 +38,8 @@
  *     answer are 0.
  *
  * What the caller owes, as in any C interface:
- *   - a pointer is valid for as many elements as the length behind it says
+ *   - a pointer is aligned, and valid for as many elements as the length behind
+ *     it says
  *     (with length 0 nothing is read or written through it, and it may be
  *     null);
  *   - a buffer that is written overlaps no other buffer of the same call.
@@ -295,19 +296,20 @@ moor_written moor_write_reply(const uint8_t *payload, size_t payload_length,
  * stay. A command attempt that was NACKed is not kept.
  *
  * Refuses with
- *   MOOR_OUTPUT_SHORT    if the buffers are under MOOR_COMMAND_ROOM,
- *                        MOOR_REPLY_ROOM and MOOR_REPLY_ROOM bytes, also where
- *                        this exchange would not use one of them;
+ *   MOOR_OUTPUT_SHORT    if `command` is under MOOR_COMMAND_ROOM bytes, or
+ *                        `reply_1` or `reply_2` under MOOR_REPLY_ROOM, also
+ *                        where this exchange would not use it;
  * and then the first that is met, byte by byte, of
  *   MOOR_RUN_ENDED to MOOR_LENGTH_OVER
  *                        as moor_telegram_at does;
  *   MOOR_RUN_ENDED       if an acknowledge byte or SYN is missing;
  *   MOOR_SYN_EARLY       at an AA in place of an acknowledge byte;
- *   MOOR_CHECK_WRONG     at the check byte, when the attempt is acknowledged
- *                        by 00, for a broadcast at once;
+ *   MOOR_CHECK_WRONG     at the check byte's first raw byte, when the attempt
+ *                        is acknowledged by 00, for a broadcast at once;
  *   MOOR_COMMAND_NACKED, MOOR_REPLY_NACKED
  *                        at the second FF;
- *   MOOR_BUS_ERROR       at the byte. */
+ *   MOOR_BUS_ERROR       at an acknowledge byte that is none of 00, FF, AA, or
+ *                        at a byte other than AA where SYN is due. */
 moor_judged moor_judge(const uint8_t *run, size_t run_length,
                        uint8_t *command, size_t command_length,
                        uint8_t *reply_1, size_t reply_1_length,
@@ -340,7 +342,8 @@ moor_request_read moor_read_request(const uint8_t *input, size_t input_length);
 /* What an answer frame says; any number of leading FF is passed over, and the
  * frame must fill the rest. The address is reported as sent, any byte.
  *
- * Refuses, places counting the leading FF, with
+ * Refuses (places count the leading FF, but for MOOR_FRAME_LENGTH, whose place
+ * is 0) with
  *   MOOR_FRAME_LENGTH      if fewer than 5 bytes are left;
  *   MOOR_FRAME_HEAD;
  *   MOOR_SUBCOMMAND_WRONG  if it is neither 03 nor 04;
@@ -423,9 +426,10 @@ moor_written moor_offer(const uint8_t *frame, size_t frame_length,
 
 /* A whole scan: a start, then continues, until the end, silence or `cap`
  * requests. The serials and addresses heard stand at the start of the two
- * lists, in the order heard; entries behind them stay. A scan of n devices is
- * complete after n + 1 requests. With cap 0 nothing is sent and nothing
- * changes.
+ * lists, in the order heard; entries behind them stay. A scan of n devices, n
+ * at least 1, is complete after n + 1 requests; of none it ends with MOOR_NOBODY
+ * after 1. With cap 0 nothing is sent and nothing changes (MOOR_UNFINISHED, 0
+ * requests). MOOR_UNFINISHED leaves lists and marks as after that many requests.
  *
  * Refuses with
  *   MOOR_OUTPUT_SHORT     if a list is shorter than the serial column;

@@ -94,7 +94,7 @@ pub enum Answer {
         /// Its address as sent, any byte.
         address: u8,
     },
-    /// The scan is at its end: every device has answered.
+    /// The scan is at its end: every device is marked as scanned.
     End,
 }
 
@@ -130,8 +130,9 @@ pub fn read_request(input: &[u8]) -> Result<Request, Refusal> {
 /// What an answer frame says. Any number of leading FF is passed over, and the
 /// frame must fill the rest.
 ///
-/// Refuses as [`read_request`] does, and last with
-/// [`SerialOver`](crate::Reason::SerialOver). Places count the leading FF.
+/// Refuses as [`read_request`] does (the length is 10 for a device found, 5 for
+/// the end), and last with [`SerialOver`](crate::Reason::SerialOver). Places
+/// count the leading FF; that of [`FrameLength`](crate::Reason::FrameLength) is 0.
 ///
 /// W10 and W11:
 ///

@@ -10,8 +10,9 @@
 //!
 //! What holds for each function that takes a pointer:
 //!
-//! - a pointer is valid for as many elements as the length behind it says;
-//!   with length 0 nothing is read or written through it;
+//! - a pointer is aligned for its element and valid for as many elements as the
+//!   length behind it says; with length 0 nothing is read or written through it,
+//!   and it may be null;
 //! - a buffer that is written overlaps no other buffer of the same call.
 //!
 //! Nothing else is asked. The library keeps no state, so that any calls may

@@ -87,7 +87,7 @@ scanAnswer (Nobody n) heard = record { number = 0; end = 2; place = 0; requests 
 scanAnswer (Unfinished n) heard = record { number = 0; end = 3; place = 0; requests = n; found = heard }
 scanAnswer (Unscanned why) heard = record { number = why .number; end = 0; place = why .place; requests = 0; found = 0 }
 
--- how many devices were heard by a scan's answer alone: one less than the requests where the last one found nobody
+-- how many devices were heard by a scan's answer alone: one less than the requests where the last one found no device
 abbrev pub foundBy : Scanned → ℕ
 foundBy (Complete n) = n - 1
 foundBy (Nobody n) = n - 1

@@ -1,7 +1,8 @@
-// The answers as structs that C can take, and how each answer of the crates below becomes one.
+// The answers as structs that C can take, and how the answers of the crates below become them; a
+// telegram, a part of a reply and a contest are made in `gateway`.
 //
-// The number is 0 where a call was accepted, and else document 01's number with the place beside it;
-// the other values are then 0.
+// In an answer of a call that can refuse the number is 0 where the call was accepted, and else
+// document 01's number with the place beside it; the other values are then 0.
 use devices::Answer;
 use devices::Scanned;
 use ebus::address::ExchangeKind;
@@ -279,7 +280,7 @@ fn scan_ended(end: u8, requests: usize, found: usize) -> ScanAnswer
     }
 }
 
-// One less, for the request that found nobody.
+// One less, for the request that found no device.
 fn one_less(requests: usize) -> usize
     ensures { λ r. ⌜ r ≡ requests - 1 ⌝ }
 {

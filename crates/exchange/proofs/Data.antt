@@ -1,53 +1,64 @@
 -- Laws of the data part of a reply buffer.
 -- Assumes nothing.
-use mathlib.Core.Path.{_≡_, refl, sym, ap, _∙_}
-use mathlib.Core.Bool.{true, false}
-use mathlib.Core.List.{List, [], _∷_}
-use Prim.Native.Nat.{ℕ, zero, suc, _+_, _-_, _≤_, _<_}
-use native.Mathlib.Omega.{arith}
+use mathlib.Core.Path.{_≡_, refl}
+use mathlib.Core.Bool.{Bool, true, false}
+use mathlib.Core.List.{List, []}
+use Prim.Native.Nat.{ℕ, _+_, _≤_, _<_}
 use lib.Dec.{leb}
-use lib.ListN.{length, getD, take, drop, length-drop}
-use lib.Seq.{length-take-le}
-use borrow.Author.Tests.{le-leb, leb-true}
+use lib.ListN.{length, getD, take, drop}
+use borrow.Author.Tests.{le-leb, lt-leb, leb-true}
 use Rattle.refusal.specs.Choice.{pick}
-use Rattle.refusal.proofs.Cases.{pick-cases}
 use Rattle.ebus.specs.Telegram.{longest}
-use Rattle.exchange.specs.Data.{dataPart}
+use Rattle.exchange.specs.Data.{holdsData, dataPart}
 
-pub data-whole : (buffer : List ℕ) → 1 ≤ length buffer → getD buffer 0 0 ≤ longest → 1 + getD buffer 0 0 ≤ length buffer
-    → dataPart buffer ≡ take (getD buffer 0 0) (drop 1 buffer)
-unfolding dataPart
-data-whole buffer some short within = simp (le-leb _ _ some, le-leb _ _ short, le-leb _ _ within)
+-- two tests that hold together hold each
+both-first : (a b : Bool) → pick a b false ≡ true → a ≡ true
+both-first true b h = refl
+both-first false b h = h
 
-pub data-whole-length : (buffer : List ℕ) → 1 ≤ length buffer → getD buffer 0 0 ≤ longest → 1 + getD buffer 0 0 ≤ length buffer
-    → length (dataPart buffer) ≡ getD buffer 0 0
-data-whole-length buffer some short within =
-    ap length (data-whole buffer some short within) ∙ length-take-le (getD buffer 0 0) (drop 1 buffer) (omega (arith, length-drop 1 buffer))
+both-second : (a b : Bool) → pick a b false ≡ true → b ≡ true
+both-second true b h = h
+both-second false true h = refl
+both-second false false h = h
 
--- the data part is the bytes behind LEN, as many as it has, and ends within the buffer
-abbrev Part : List ℕ → List ℕ → Type 0
-Part buffer d = (d ≡ take (length d) (drop 1 buffer)) × (length d < suc (length buffer)) × (0 < length d → length d + 1 ≤ length buffer)
+module _ (buffer : List ℕ) where
+  abbrev size : ℕ
+  size = getD buffer 0 0
 
-nothing : (buffer : List ℕ) → Part buffer []
-nothing buffer = (refl, omega arith, λ h. omega arith)
+  -- ---- the test
 
-pub data-part : (buffer : List ℕ) → Part buffer (dataPart buffer)
-unfolding dataPart
-data-part buffer =
-    let n = getD buffer 0 0 in
-    pick-cases (Part buffer) (leb 1 (length buffer)) _ _
-    (λ some.
-    pick-cases (Part buffer) (leb n longest) _ _
-    (λ short.
-    pick-cases (Part buffer) (leb (1 + n) (length buffer)) _ _
-    (λ within.
-    let h : 1 + n ≤ length buffer = leb-true _ _ within in
-    let size : length (take n (drop 1 buffer)) ≡ n = length-take-le n (drop 1 buffer) (omega (arith, length-drop 1 buffer)) in
-    (ap (λ (k : ℕ). take k (drop 1 buffer)) (sym size), omega arith, λ k. omega arith))
-    (λ _. nothing buffer))
-    (λ _. nothing buffer))
-    (λ _. nothing buffer)
+  pub holds : 1 ≤ length buffer → size ≤ longest → 1 + size ≤ length buffer → holdsData buffer ≡ true
+  unfolding holdsData
+  holds some short within = simp (le-leb _ _ some, le-leb _ _ short, le-leb _ _ within)
 
-pub no-data : (l : List ℕ) → length l ≡ 0 → l ≡ []
-no-data [] e = refl
-no-data (x ∷ xs) e = let f : ⊥ = omega arith in absurd f
+  pub holds-empty : length buffer < 1 → holdsData buffer ≡ false
+  unfolding holdsData
+  holds-empty none = simp (lt-leb _ _ none)
+
+  pub holds-over : 1 ≤ length buffer → longest < size → holdsData buffer ≡ false
+  unfolding holdsData
+  holds-over some over = simp (le-leb _ _ some, lt-leb _ _ over)
+
+  pub holds-past : 1 ≤ length buffer → size ≤ longest → length buffer < 1 + size → holdsData buffer ≡ false
+  unfolding holdsData
+  holds-past some short past = simp (le-leb _ _ some, le-leb _ _ short, lt-leb _ _ past)
+
+  -- data that is held ends within the buffer
+  pub held-within : holdsData buffer ≡ true → (1 ≤ length buffer) × (1 + size ≤ length buffer)
+  unfolding holdsData
+  held-within t =
+      let inner = both-second (leb 1 (length buffer)) (pick (leb size longest) (leb (1 + size) (length buffer)) false) t in
+      (leb-true _ _ (both-first (leb 1 (length buffer)) (pick (leb size longest) (leb (1 + size) (length buffer)) false) t), leb-true _ _ (both-second (leb size longest) (leb (1 + size) (length buffer)) inner))
+
+  -- ---- the part
+
+  pub data-held : holdsData buffer ≡ true → dataPart buffer ≡ take size (drop 1 buffer)
+  unfolding dataPart
+  data-held t = simp t
+
+  pub data-none : holdsData buffer ≡ false → dataPart buffer ≡ []
+  unfolding dataPart
+  data-none t = simp t
+
+  pub data-whole : 1 ≤ length buffer → size ≤ longest → 1 + size ≤ length buffer → dataPart buffer ≡ take size (drop 1 buffer)
+  data-whole some short within = data-held (holds some short within)

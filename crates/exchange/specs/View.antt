@@ -55,7 +55,7 @@ viewedTries first second t (Neither why) = neither why
 abbrev pub triesOf : HeldTries → List ℕ → List ℕ → Tries
 triesOf t first second = viewedTries first second t (t .tried)
 
--- what each case of the answer means: document 01's values, or its number and place; behind a command of these bytes
+-- what stands behind a command of these bytes: document 01's values with the replies' bytes, or its number and place
 abbrev pub viewedReplies : List ℕ → List ℕ → List ℕ → HeldReplies → Judged → Outcome
 viewedReplies command first second e (Accepted kind commands replies n) = accepted kind commands replies n command (take (e .len1) first) (take (e .len2) second)
 viewedReplies command first second e (Refused why) = rejected why

@@ -1,28 +1,25 @@
 // The data of a reply, as a part of the buffer that holds it.
+use ebus::telegram::LONGEST;
 ghost use mathlib.Core.Path.{_≡_};
-ghost use lib.ListN.{length};
-ghost use Rattle.exchange.specs.Data.{dataPart, replyData};
+ghost use Rattle.exchange.specs.Data.{holdsData, replyData};
 
-// The largest LEN.
-const LONGEST: u8 = 16;
-
-// How many data bytes stand behind LEN; 0 also where there is no LEN, where it is over 16, and where
-// the data would pass the end.
-fn data_length(buffer: &[u8]) -> usize
-    ensures { λ r. ⌜ r ≡ length (dataPart (now (buffer .entry))) ⌝ }
+// Whether a buffer holds LEN and the data behind it: not where there is no LEN, where it is over 16,
+// and where the data would pass the end.
+pub fn holds_data(buffer: &[u8]) -> bool
+    ensures { λ r. ⌜ r ≡ holdsData (now (buffer .entry)) ⌝ }
 {
     if buffer.len() < 1 {
-        return 0;
+        return false;
     }
     let n = buffer[0];
     if LONGEST < n {
-        return 0;
+        return false;
     }
     let size = n as usize;
     if buffer.len() < 1 + size {
-        return 0;
+        return false;
     }
-    size
+    true
 }
 
 // The data of the reply attempt asked for, a part of its buffer. The buffers are those that the
@@ -32,20 +29,18 @@ pub fn reply_data<'a>(first: &'a [u8], second: &'a [u8], attempt: u8) -> &'a [u8
     ensures { λ r. ⌜ now r ≡ replyData (now (first .entry)) (now (second .entry)) attempt ⌝ }
 {
     if attempt == 1 {
-        let n = data_length(first);
-        if n == 0 {
-            return &first[..0];
+        if holds_data(first) {
+            let end = first[0] as usize + 1;
+            return &first[1..end];
         }
-        let end = n + 1;
-        return &first[1..end];
+        return &first[..0];
     }
     if attempt == 2 {
-        let n = data_length(second);
-        if n == 0 {
-            return &first[..0];
+        if holds_data(second) {
+            let end = second[0] as usize + 1;
+            return &second[1..end];
         }
-        let end = n + 1;
-        return &second[1..end];
+        return &first[..0];
     }
     &first[..0]
 }

@@ -1,8 +1,9 @@
 // Telegrams, read from a run at a position. One reader serves commands and replies.
 //
-// The reader stores what it reads in an array of the judge's own, and not in what a caller lent, so
-// that a refusal changes nothing. Its answer is small, since an array that is handed back by value
-// is copied at each return, and each copy waits for the bytes stored last.
+// The reader stores what it reads in an array of its caller's, the judge's own or that of
+// `telegram_at`, and never in what a user lent, so that a refusal changes nothing lent. Its answer is
+// small, since an array that is handed back by value is copied at each return, and each copy waits
+// for the bytes stored last.
 use ebus::escape::Logical;
 use ebus::escape::logical_at;
 use ebus::telegram::COMMAND_HEAD;
@@ -21,7 +22,7 @@ ghost use Rattle.ebus.specs.declared.telegram.Reading.the-variants.{Read, Unrea
 ghost use Rattle.exchange.specs.View.{extentOf, telegramOf};
 
 // How far a telegram was read: how many bytes, the place of the last of them, and the position
-// behind it.
+// behind it; or why it can't be read.
 pub struct Extent {
     pub len: usize,
     pub last: usize,
@@ -115,7 +116,8 @@ fn with_head(run: &[u8], head: usize, at: usize, out: &mut [u8]) -> Extent
 }
 
 // The command, or else the reply, at a position of the run: all its bytes through the check byte,
-// or the first refusal that is met. The output then starts with the bytes.
+// or the first refusal that is met. When it is read, the output starts with its bytes; on a refusal
+// it may hold part of them.
 pub(crate) fn read_telegram(run: &[u8], command: bool, at: usize, out: &mut [u8]) -> Extent
     requires { ⌜ 22 ≤ length (now out) ⌝ }
     ensures { λ r. ⌜ extentOf r (now (out .exit)) ≡ telegramAt (headOf command) (now (run .entry)) at ⌝ }

@@ -1,17 +1,15 @@
--- What each call that writes is promised to give, with the exit content of everything lent: the definitions are those of
+-- What the calls are promised to give, with the exit content of everything lent: the definitions are those of
 -- the crates below, and only the answer is turned into numbers.
 -- Assumes nothing.
 use mathlib.Core.Path.{_≡_}
-use mathlib.Core.Bool.{Bool, false}
-use Prim.Native.Nat.{ℕ, _+_}
+use Prim.Native.Nat.{ℕ}
 use mathlib.Core.List.{List}
-use lib.Dec.{eqb, leb}
+use lib.Dec.{eqb}
 use lib.ListN.{length, getD, take, drop}
 use Rattle.refusal.specs.Choice.{pick}
 use Rattle.refusal.specs.Number.{subcommandWrong, at-place}
 use Rattle.refusal.specs.Output.{Output, refused, answer, left, starting}
-use Rattle.ebus.specs.Telegram.{longest}
-use Rattle.exchange.specs.Data.{replyData}
+use Rattle.exchange.specs.Data.{holdsData, replyData}
 use Rattle.exchange.specs.Exchange.{Outcome}
 use Rattle.exchange.specs.View.{answered, commandOf, firstOf, secondOf}
 use Rattle.fastmodbus.specs.Writing.{writeRequest}
@@ -29,8 +27,8 @@ pub record Writes (out : Output) (r : WriteAnswer) (old new : List ℕ) : Type 0
   pub result : r ≡ writeAnswer (answer out)
   pub output : new ≡ left out old
 
--- a request by its number; a number that is no request is "subcommand not one this reader takes", at place 0 as in all
--- writing
+-- a request by its number. Document 01 writes only start and continue ("requests only 1"); a number that is neither is
+-- outside it and gets the number of a wrong subcommand, at place 0 as in all writing
 unfoldable pub requestOutput : ℕ → ℕ → Output
 requestOutput request room =
     pick (eqb request 1) (writeRequest Start room)
@@ -42,12 +40,6 @@ pub record JudgesInto (o : Outcome) (r : JudgeAnswer) (command command′ first 
   pub command-buffer : command′ ≡ starting (commandOf o) command
   pub first-buffer : first′ ≡ starting (firstOf o) first
   pub second-buffer : second′ ≡ starting (secondOf o) second
-
--- whether a buffer holds LEN and the data behind it: not "an empty buffer, a LEN over 16 or data that would pass the
--- buffer's end"
-unfoldable pub holdsData : List ℕ → Bool
-holdsData buffer =
-    pick (leb 1 (length buffer)) (pick (leb (getD buffer 0 0) longest) (leb (1 + getD buffer 0 0) (length buffer)) false) false
 
 -- "the empty start of the first"
 abbrev pub emptyStart : PartAnswer

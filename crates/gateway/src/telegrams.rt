@@ -5,7 +5,6 @@ use answers::TelegramAnswer;
 use answers::WriteAnswer;
 use answers::judge_answer;
 use answers::write_answer;
-use ebus::telegram::LONGEST;
 use ebus::telegram::Reading;
 use exchange::telegram::Telegram;
 use refusal::put;
@@ -118,22 +117,14 @@ fn empty_start() -> PartAnswer
 fn part_in(attempt: u8, buffer: &[u8]) -> PartAnswer
     ensures { λ r. ⌜ r ≡ partIn attempt (now (buffer .entry)) ⌝ }
 {
-    if buffer.len() < 1 {
-        return empty_start();
+    if exchange::reply::holds_data(buffer) {
+        return PartAnswer {
+            attempt,
+            start: 1,
+            length: buffer[0] as usize,
+        };
     }
-    let n = buffer[0];
-    if LONGEST < n {
-        return empty_start();
-    }
-    let length = n as usize;
-    if buffer.len() < 1 + length {
-        return empty_start();
-    }
-    PartAnswer {
-        attempt,
-        start: 1,
-        length,
-    }
+    empty_start()
 }
 
 // Where the data of the reply attempt asked for stands, in the buffers that the judge filled: C cannot

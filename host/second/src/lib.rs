@@ -1,5 +1,5 @@
 //! The rules of document 01 written a second time, in plain Rust, from the
-//! paper alone. The archive is held against this crate, input by input, and is
+//! paper, and from `moortinker.h` where the paper has no say. The archive is held against this crate, input by input, and is
 //! measured beside it. There is one function here for each function of
 //! `moortinker.h`, over slices, with `Result<_, Refusal>` for the answer.
 
