@@ -162,7 +162,20 @@ pub(crate) fn contest(keys: &[u32]) -> sys::Decided {
     unsafe { sys::moor_contest(keys.as_ptr(), keys.len()) }
 }
 
-pub(crate) fn start(
+/// A call that asks the devices of a table and writes their answer.
+type Asked = unsafe extern "C" fn(
+    *const u32,
+    usize,
+    *const u8,
+    usize,
+    *mut u8,
+    usize,
+    *mut u8,
+    usize,
+) -> sys::Written;
+
+fn ask(
+    asked: Asked,
     serials: &[u32],
     addresses: &[u8],
     marks: &mut [u8],
@@ -171,7 +184,7 @@ pub(crate) fn start(
     // SAFETY: pointer and length of each slice; the two that are written
     // overlap nothing.
     unsafe {
-        sys::moor_start(
+        asked(
             serials.as_ptr(),
             serials.len(),
             addresses.as_ptr(),
@@ -184,26 +197,22 @@ pub(crate) fn start(
     }
 }
 
+pub(crate) fn start(
+    serials: &[u32],
+    addresses: &[u8],
+    marks: &mut [u8],
+    answer: &mut [u8],
+) -> sys::Written {
+    ask(sys::moor_start, serials, addresses, marks, answer)
+}
+
 pub(crate) fn resume(
     serials: &[u32],
     addresses: &[u8],
     marks: &mut [u8],
     answer: &mut [u8],
 ) -> sys::Written {
-    // SAFETY: pointer and length of each slice; the two that are written
-    // overlap nothing.
-    unsafe {
-        sys::moor_resume(
-            serials.as_ptr(),
-            serials.len(),
-            addresses.as_ptr(),
-            addresses.len(),
-            marks.as_mut_ptr(),
-            marks.len(),
-            answer.as_mut_ptr(),
-            answer.len(),
-        )
-    }
+    ask(sys::moor_resume, serials, addresses, marks, answer)
 }
 
 pub(crate) fn offer(

@@ -5,121 +5,105 @@ use std::fmt;
 
 use crate::sys;
 
-/// Why a call was refused. The discriminant is the number that is handed back.
-///
-/// ```
-/// use moortinker::Reason;
-///
-/// assert_eq!(Reason::BusError.number(), 12);
-/// assert_eq!(Reason::from_number(12), Some(Reason::BusError));
-/// assert_eq!(Reason::from_number(0), None);
-/// assert_eq!(Reason::SynEarly.to_string(), "SYN where another byte was due");
-/// ```
-#[derive(Clone, Copy, Debug, PartialEq, Eq, PartialOrd, Ord, Hash)]
-#[repr(u8)]
-#[non_exhaustive]
-pub enum Reason {
-    /// A lent output is shorter than stated.
-    OutputShort = 1,
-    /// The device table is not valid.
-    TableNotValid = 2,
-    /// The eBUS run ends too early, or an escape does. The place is the run's
-    /// length.
-    RunEnded = 3,
-    /// The byte after A9 is none of 00, 01, AA.
-    EscapeWrong = 4,
-    /// A raw AA where another byte was due.
-    SynEarly = 5,
-    /// SRC is no initiator address.
-    SourceWrong = 6,
-    /// DST is A9 or AA.
-    DestinationWrong = 7,
-    /// LEN is over 16.
-    LengthOver = 8,
-    /// A wrong check byte in an accepted attempt.
-    CheckWrong = 9,
-    /// The command was NACKed twice.
-    CommandNacked = 10,
-    /// The reply was NACKed twice.
-    ReplyNacked = 11,
-    /// An acknowledge byte that is none of 00, FF, AA, or not AA where SYN is
-    /// due.
-    BusError = 12,
-    /// The length of a Modbus frame is wrong. The place is 0.
-    FrameLength = 13,
-    /// A Modbus frame does not begin FD 46.
-    FrameHead = 14,
-    /// A subcommand that the reader does not take.
-    SubcommandWrong = 15,
-    /// The check of a Modbus frame is wrong.
-    FrameCheck = 16,
-    /// A serial of 2^28 or more.
-    SerialOver = 17,
+/// Declares the reasons, each with its number and what it says in a few words.
+macro_rules! reasons {
+    (
+        $(#[$about:meta])*
+        pub enum Reason {
+            $($(#[$given:meta])* $reason:ident = $number:literal, $words:literal;)*
+        }
+    ) => {
+        $(#[$about])*
+        pub enum Reason {
+            $($(#[$given])* $reason = $number,)*
+        }
+
+        impl Reason {
+            /// All reasons, in the order of their numbers. Not every number is
+            /// in use.
+            ///
+            /// ```
+            /// use moortinker::Reason;
+            ///
+            /// let numbers: Vec<u8> = Reason::ALL.iter().map(|reason| reason.number()).collect();
+            /// assert!(numbers.windows(2).all(|pair| pair[0] < pair[1]));
+            /// ```
+            pub const ALL: &'static [Reason] = &[$(Reason::$reason),*];
+
+            /// The number of this reason.
+            pub const fn number(self) -> u8 {
+                self as u8
+            }
+
+            /// The reason with this number, if there is one.
+            pub const fn from_number(number: u8) -> Option<Reason> {
+                match number {
+                    $($number => Some(Reason::$reason),)*
+                    _ => None,
+                }
+            }
+
+            /// What the reason says, in a few words.
+            const fn words(self) -> &'static str {
+                match self {
+                    $(Reason::$reason => $words,)*
+                }
+            }
+        }
+    };
 }
 
-impl Reason {
-    /// All reasons, in the order of their numbers.
+reasons! {
+    /// Why a call was refused. The discriminant is the number that is handed back.
     ///
     /// ```
     /// use moortinker::Reason;
     ///
-    /// let numbers: Vec<u8> = Reason::ALL.iter().map(|reason| reason.number()).collect();
-    /// assert_eq!(numbers, (1..=17).collect::<Vec<u8>>());
+    /// assert_eq!(Reason::BusError.number(), 12);
+    /// assert_eq!(Reason::from_number(12), Some(Reason::BusError));
+    /// assert_eq!(Reason::from_number(0), None);
+    /// assert_eq!(Reason::SynEarly.to_string(), "SYN where another byte was due");
     /// ```
-    pub const ALL: &'static [Reason] = &[
-        Reason::OutputShort,
-        Reason::TableNotValid,
-        Reason::RunEnded,
-        Reason::EscapeWrong,
-        Reason::SynEarly,
-        Reason::SourceWrong,
-        Reason::DestinationWrong,
-        Reason::LengthOver,
-        Reason::CheckWrong,
-        Reason::CommandNacked,
-        Reason::ReplyNacked,
-        Reason::BusError,
-        Reason::FrameLength,
-        Reason::FrameHead,
-        Reason::SubcommandWrong,
-        Reason::FrameCheck,
-        Reason::SerialOver,
-    ];
-
-    /// The number of this reason, 1 to 17.
-    pub const fn number(self) -> u8 {
-        self as u8
-    }
-
-    /// The reason with this number, if there is one.
-    pub const fn from_number(number: u8) -> Option<Reason> {
-        match number {
-            1..=17 => Some(Reason::ALL[number as usize - 1]),
-            _ => None,
-        }
-    }
-
-    /// What the reason says, in a few words.
-    const fn words(self) -> &'static str {
-        match self {
-            Reason::OutputShort => "the output is too short",
-            Reason::TableNotValid => "the device table is not valid",
-            Reason::RunEnded => "the run ends too early",
-            Reason::EscapeWrong => "A9 is followed by none of 00, 01, AA",
-            Reason::SynEarly => "SYN where another byte was due",
-            Reason::SourceWrong => "the source is no initiator address",
-            Reason::DestinationWrong => "the destination is A9 or AA",
-            Reason::LengthOver => "the data length is over 16",
-            Reason::CheckWrong => "the check byte is wrong",
-            Reason::CommandNacked => "the command was NACKed twice",
-            Reason::ReplyNacked => "the reply was NACKed twice",
-            Reason::BusError => "bus error",
-            Reason::FrameLength => "the frame's length is wrong",
-            Reason::FrameHead => "the frame does not begin FD 46",
-            Reason::SubcommandWrong => "the subcommand is not one that is taken",
-            Reason::FrameCheck => "the frame's check is wrong",
-            Reason::SerialOver => "the serial is 2^28 or more",
-        }
+    #[derive(Clone, Copy, Debug, PartialEq, Eq, PartialOrd, Ord, Hash)]
+    #[repr(u8)]
+    #[non_exhaustive]
+    pub enum Reason {
+        /// A lent output is shorter than stated.
+        OutputShort = 1, "the output is too short";
+        /// The device table is not valid.
+        TableNotValid = 2, "the device table is not valid";
+        /// The eBUS run ends too early, or an escape does. The place is the run's
+        /// length.
+        RunEnded = 3, "the run ends too early";
+        /// The byte after A9 is none of 00, 01, AA.
+        EscapeWrong = 4, "A9 is followed by none of 00, 01, AA";
+        /// A raw AA where another byte was due.
+        SynEarly = 5, "SYN where another byte was due";
+        /// SRC is no initiator address.
+        SourceWrong = 6, "the source is no initiator address";
+        /// DST is A9 or AA.
+        DestinationWrong = 7, "the destination is A9 or AA";
+        /// LEN is over 16.
+        LengthOver = 8, "the data length is over 16";
+        /// A wrong check byte in an accepted attempt.
+        CheckWrong = 9, "the check byte is wrong";
+        /// The command was NACKed twice.
+        CommandNacked = 10, "the command was NACKed twice";
+        /// The reply was NACKed twice.
+        ReplyNacked = 11, "the reply was NACKed twice";
+        /// An acknowledge byte that is none of 00, FF, AA, or not AA where SYN is
+        /// due.
+        BusError = 12, "bus error";
+        /// The length of a Modbus frame is wrong. The place is 0.
+        FrameLength = 13, "the frame's length is wrong";
+        /// A Modbus frame does not begin FD 46.
+        FrameHead = 14, "the frame does not begin FD 46";
+        /// A subcommand that the reader does not take.
+        SubcommandWrong = 15, "the subcommand is not one that is taken";
+        /// The check of a Modbus frame is wrong.
+        FrameCheck = 16, "the frame's check is wrong";
+        /// A serial of 2^28 or more.
+        SerialOver = 17, "the serial is 2^28 or more";
     }
 }
 
@@ -169,7 +153,7 @@ impl Refusal {
         self.reason
     }
 
-    /// The number of the reason, 1 to 17.
+    /// The number of the reason.
     pub const fn number(self) -> u8 {
         self.reason.number()
     }

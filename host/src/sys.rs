@@ -404,88 +404,28 @@ mod tests {
     use super::*;
     use std::mem::{align_of, offset_of, size_of};
 
-    #[test]
-    fn written() {
-        assert_eq!((size_of::<Written>(), align_of::<Written>()), (24, 8));
-        assert_eq!(offset_of!(Written, number), 0);
-        assert_eq!(offset_of!(Written, place), 8);
-        assert_eq!(offset_of!(Written, length), 16);
+    /// A test for each answer: its size, its alignment, and where its fields lie.
+    macro_rules! layout {
+        ($($test:ident: $answer:ident $size:literal $align:literal { $($field:ident $at:literal)* })*) => {
+            $(
+                #[test]
+                fn $test() {
+                    assert_eq!((size_of::<$answer>(), align_of::<$answer>()), ($size, $align));
+                    $(assert_eq!(offset_of!($answer, $field), $at, stringify!($field));)*
+                }
+            )*
+        };
     }
 
-    #[test]
-    fn logical() {
-        assert_eq!((size_of::<Logical>(), align_of::<Logical>()), (24, 8));
-        assert_eq!(offset_of!(Logical, number), 0);
-        assert_eq!(offset_of!(Logical, byte), 1);
-        assert_eq!(offset_of!(Logical, place), 8);
-        assert_eq!(offset_of!(Logical, next), 16);
-    }
-
-    #[test]
-    fn telegram() {
-        assert_eq!((size_of::<Telegram>(), align_of::<Telegram>()), (64, 8));
-        assert_eq!(offset_of!(Telegram, number), 0);
-        assert_eq!(offset_of!(Telegram, place), 8);
-        assert_eq!(offset_of!(Telegram, length), 16);
-        assert_eq!(offset_of!(Telegram, last), 24);
-        assert_eq!(offset_of!(Telegram, next), 32);
-        assert_eq!(offset_of!(Telegram, bytes), 40);
-    }
-
-    #[test]
-    fn judged() {
-        assert_eq!((size_of::<Judged>(), align_of::<Judged>()), (24, 8));
-        assert_eq!(offset_of!(Judged, number), 0);
-        assert_eq!(offset_of!(Judged, kind), 1);
-        assert_eq!(offset_of!(Judged, command_attempts), 2);
-        assert_eq!(offset_of!(Judged, reply_attempts), 3);
-        assert_eq!(offset_of!(Judged, place), 8);
-        assert_eq!(offset_of!(Judged, read), 16);
-    }
-
-    #[test]
-    fn part() {
-        assert_eq!((size_of::<Part>(), align_of::<Part>()), (24, 8));
-        assert_eq!(offset_of!(Part, attempt), 0);
-        assert_eq!(offset_of!(Part, start), 8);
-        assert_eq!(offset_of!(Part, length), 16);
-    }
-
-    #[test]
-    fn request_read() {
-        assert_eq!(
-            (size_of::<RequestRead>(), align_of::<RequestRead>()),
-            (16, 8)
-        );
-        assert_eq!(offset_of!(RequestRead, number), 0);
-        assert_eq!(offset_of!(RequestRead, request), 1);
-        assert_eq!(offset_of!(RequestRead, place), 8);
-    }
-
-    #[test]
-    fn answer_read() {
-        assert_eq!((size_of::<AnswerRead>(), align_of::<AnswerRead>()), (16, 8));
-        assert_eq!(offset_of!(AnswerRead, number), 0);
-        assert_eq!(offset_of!(AnswerRead, answer), 1);
-        assert_eq!(offset_of!(AnswerRead, address), 2);
-        assert_eq!(offset_of!(AnswerRead, serial), 4);
-        assert_eq!(offset_of!(AnswerRead, place), 8);
-    }
-
-    #[test]
-    fn decided() {
-        assert_eq!((size_of::<Decided>(), align_of::<Decided>()), (16, 8));
-        assert_eq!(offset_of!(Decided, key), 0);
-        assert_eq!(offset_of!(Decided, dominant), 8);
-    }
-
-    #[test]
-    fn scanned() {
-        assert_eq!((size_of::<Scanned>(), align_of::<Scanned>()), (32, 8));
-        assert_eq!(offset_of!(Scanned, number), 0);
-        assert_eq!(offset_of!(Scanned, end), 1);
-        assert_eq!(offset_of!(Scanned, place), 8);
-        assert_eq!(offset_of!(Scanned, requests), 16);
-        assert_eq!(offset_of!(Scanned, found), 24);
+    layout! {
+        written: Written 24 8 { number 0 place 8 length 16 }
+        logical: Logical 24 8 { number 0 byte 1 place 8 next 16 }
+        telegram: Telegram 64 8 { number 0 place 8 length 16 last 24 next 32 bytes 40 }
+        judged: Judged 24 8 { number 0 kind 1 command_attempts 2 reply_attempts 3 place 8 read 16 }
+        part: Part 24 8 { attempt 0 start 8 length 16 }
+        request_read: RequestRead 16 8 { number 0 request 1 place 8 }
+        answer_read: AnswerRead 16 8 { number 0 answer 1 address 2 serial 4 place 8 }
+        decided: Decided 16 8 { key 0 dominant 8 }
+        scanned: Scanned 32 8 { number 0 end 1 place 8 requests 16 found 24 }
     }
 }

@@ -1,4 +1,5 @@
 -- Laws of the contest.
-pub mod Tests
-pub mod Window
-pub mod Law
+pub mod OneWindow
+pub mod OneKey
+pub mod Contenders
+pub mod SmallestWins

@@ -1,41 +1,32 @@
--- Document 01, "Devices and arbitration": the contest of any list of keys over any number of windows.
+-- Rule D3: the contest of any list of keys over any number of windows.
 -- Assumes nothing.
 use Prim.Native.Nat.{ℕ, zero, suc, _+_, _/_, _%_, _^_}
-use mathlib.Core.Bool.{Bool, true, false}
-use mathlib.Core.List.{List, [], _∷_}
-use lib.Dec.{eqb}
+use mathlib.Core.Bool.{Bool}
+use mathlib.Core.List.{List}
+use lib.Dec.{eqb, ltb}
 use lib.ListN.{getD}
-use Rattle.refusal.specs.Choice.{pick}
-
--- whether some number passes a test
-unfoldable pub some : (ℕ → Bool) → List ℕ → Bool
-some test [] = false
-some test (x ∷ xs) = pick (test x) true (some test xs)
-
--- those that pass it, in their order
-unfoldable pub keep : (ℕ → Bool) → List ℕ → List ℕ
-keep test [] = []
-keep test (x ∷ xs) = pick (test x) (x ∷ keep test xs) (keep test xs)
+use Rattle.lists.specs.Choice.{pick}
+use Rattle.lists.specs.Tests.{any, keep, position}
+use Rattle.arbitration.specs.declared.Decided.{Decided}
 
 -- the key has a 0 in a window. Windows are counted by how many are still to come: 0 is the last, the lowest bit.
 abbrev pub zeroIn : ℕ → ℕ → Bool
 zeroIn window key = eqb (key / 2 ^ window % 2) 0
 
--- "the bus is dominant when some device still in the contest has a 0 there"
+-- rule D3: a window is dominant when somebody still in the contest has a 0 there
 abbrev pub dominant : ℕ → List ℕ → Bool
-dominant window keys = some (zeroIn window) keys
+dominant window keys = any (zeroIn window) keys
 
--- "then all with a 1 drop out"
+-- who is left after a window: where it is dominant, only those with a 0
 abbrev pub after : ℕ → List ℕ → List ℕ
 after window keys = pick (dominant window keys) (keep (zeroIn window) keys) keys
 
--- "With no window left the contest is over; otherwise it is the contest of those remaining over the windows still to
--- come": who remains
+-- rule D3: who remains when no window is left; until then it is the contest of those remaining over one window less
 unfoldable pub remaining : ℕ → List ℕ → List ℕ
 remaining zero keys = keys
 remaining (suc window) keys = remaining window (after window keys)
 
--- .. and how many windows were dominant: "A dominant window puts one FF on the bus"
+-- .. and how many windows were dominant, each of which puts one FF on the bus
 unfoldable pub dominantWindows : ℕ → List ℕ → ℕ
 dominantWindows zero keys = 0
 dominantWindows (suc window) keys = pick (dominant window keys) 1 0 + dominantWindows window (after window keys)
@@ -43,3 +34,21 @@ dominantWindows (suc window) keys = pick (dominant window keys) 1 0 + dominantWi
 -- the key that remains; 0 where nobody contends
 unfoldable pub winner : ℕ → List ℕ → ℕ
 winner windows keys = getD (remaining windows keys) 0 0
+
+-- who contends: each key that has no more bits than there are windows. A device sits out with any other key.
+abbrev pub fits : ℕ → ℕ → Bool
+fits windows key = ltb key (2 ^ windows)
+
+abbrev pub contending : ℕ → List ℕ → List ℕ
+contending windows keys = keep (fits windows) keys
+
+-- what the contest decides: where in the whole list the winner's key stands first, that key, and how many windows were
+-- dominant. A key of 0 always contends, so where nobody does the winner's key, 0, stands nowhere: the place is the
+-- length of the list.
+unfoldable pub decided : ℕ → List ℕ → Decided
+decided windows keys =
+    record {
+      place = position (winner windows (contending windows keys)) keys;
+      key = winner windows (contending windows keys);
+      dominant = dominantWindows windows (contending windows keys);
+    }

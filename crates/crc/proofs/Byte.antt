@@ -1,37 +1,25 @@
--- What a byte does to each register, by any table that passes the test of Table.antt.
+-- What a byte does to the Modbus register, by any table that passes the test of Table.antt, and one turn of the check's
+-- loop: the byte at i enters the register, and what is left starts at i + 1.
 -- Assumes nothing.
-use mathlib.Core.Path.{_≡_, ap, ap₂, _∙_, subst}
+use mathlib.Core.Path.{_≡_, sym, ap, _∙_, subst}
 use mathlib.Core.List.{List}
-use Prim.Native.Nat.{ℕ, _*_, _/_, _%_, _^_, _<_}
-use native.Mathlib.Nat.{mod-lt, mod-one, div-one, div-eq-of-lt, mod-eq-of-lt}
+use Prim.Native.Nat.{ℕ, _+_, _/_, _%_, _^_, _<_}
+use native.Mathlib.Nat.{mod-lt, div-eq-of-lt}
 use native.Mathlib.Omega.{arith}
 use lib.Bits.{bitXor, xor-lt, xor-shr, xor-zero-r}
 use lib.Dec.{lit<, lit≤}
-use lib.ListN.{getD}
-use Rattle.crc.specs.Register.{left, right, steps, enter, bits}
-use Rattle.crc.specs.Check.{ebusPolynomial, modbusPolynomial}
-use Rattle.crc.proofs.Register.{enter-spelled, bits-are-bits, spelled-bits, steps-lt}
-use Rattle.crc.proofs.Table.{IsTable, entry-lt, by-table}
+use lib.ListN.{length, getD, drop}
+use Rattle.lists.proofs.Filling.{drop-next}
+use Rattle.crc.specs.Register.{right, steps}
+use Rattle.crc.specs.Check.{modbusPolynomial, modbusBytes}
+use Rattle.crc.specs.BitByBit.{modbusTimes, ModbusTable}
+use Rattle.crc.proofs.Register.{steps-lt}
+use Rattle.crc.proofs.Table.{IsTable, table-by, entry-lt, by-table}
+use Rattle.crc.proofs.BitByBit.{many-steps}
 
--- ---- a byte enters the eBUS register
-
-module _ {table : List ℕ} (t : IsTable left 8 ebusPolynomial table) (r b : ℕ) (hr : r < 256) (hb : b < 256) where
-  -- the whole register falls out, so eight steps are the lookup alone
-  eight-left : steps left 8 ebusPolynomial 8 r ≡ getD table r 0
-  eight-left =
-      by-table left 8 ebusPolynomial table t (lit< tt) (lit≤ tt) r hr (omega arith)
-      ∙ ap₂ (λ (x y : ℕ). bitXor (x * 256) (getD table y 0)) (mod-one r) (div-one r)
-
-  pub ebus-byte : enter 8 ebusPolynomial r (bits 8 b) ≡ bitXor (getD table r 0) b
-  unfolding bits
-  ebus-byte =
-      enter-spelled 8 ebusPolynomial r (bits 8 b) (lit< tt) (lit≤ tt) (bits-are-bits 8 b) hr
-      ∙ ap₂ bitXor eight-left (spelled-bits 8 b ∙ mod-eq-of-lt hb)
-
-  pub ebus-lt : bitXor (getD table r 0) b < 256
-  ebus-lt = xor-lt 8 (getD table r 0) b (entry-lt left 8 ebusPolynomial table t (lit< tt) (lit≤ tt) r hr) hb
-
--- ---- a byte enters the Modbus register
+-- the table by the bit-by-bit rule is one by the register's steps
+pub modbus-table : {table : List ℕ} → ModbusTable table → IsTable right 16 modbusPolynomial table
+modbus-table t = table-by (modbusTimes 8) (steps right 16 modbusPolynomial 8) (λ k within. sym (many-steps 8 k)) t
 
 module _ {table : List ℕ} (t : IsTable right 16 modbusPolynomial table) (r b : ℕ) (hr : r < 2 ^ 16) (hb : b < 256) where
   added-lt : bitXor r b < 2 ^ 16
@@ -48,3 +36,10 @@ module _ {table : List ℕ} (t : IsTable right 16 modbusPolynomial table) (r b :
 
   pub modbus-entry-lt : getD table (bitXor r b % 256) 0 < 2 ^ 16
   modbus-entry-lt = entry-lt right 16 modbusPolynomial table t (lit< tt) (lit≤ tt) (bitXor r b % 256) (mod-lt (bitXor r b) (lit< tt))
+
+pub modbus-turn : {table : List ℕ} (t : IsTable right 16 modbusPolynomial table) (bytes : List ℕ) (i r : ℕ) → i < length bytes → getD bytes i 0 < 256 → r < 2 ^ 16
+    → modbusBytes r (drop i bytes)
+    ≡ modbusBytes (bitXor (r / 256) (getD table (bitXor r (getD bytes i 0) % 256) 0)) (drop (i + 1) bytes)
+unfolding modbusBytes
+modbus-turn t bytes i r hi hb hr =
+    ap (modbusBytes r) (drop-next bytes i hi) ∙ ap (λ (x : ℕ). modbusBytes x (drop (i + 1) bytes)) (modbus-byte t r (getD bytes i 0) hr hb)

@@ -1,27 +1,17 @@
--- The bit-by-bit rules once more, as the public routines write them: with an if, and with their own numbers. That
--- they are the checks of Check.antt on all bytes is proved in proofs/BitByBit.antt, so that a reader need not trust
--- the compact step of Register.antt.
+-- Rule F2, bit by bit. The Modbus rule once more, as the public routine writes it: with an if, and with its own numbers.
+-- That it is the check of Check.antt on all bytes is proved in proofs/BitByBit.antt, so that a reader need not trust the
+-- compact step of Register.antt.
 -- Assumes nothing.
-use Prim.Native.Nat.{ℕ, zero, suc, _+_, _-_, _*_, _/_, _%_}
+use mathlib.Core.Path.{_≡_}
+use Prim.Native.Nat.{ℕ, zero, suc, _/_, _%_, _<_}
 use mathlib.Core.List.{List, [], _∷_}
 use lib.Bits.{bitXor}
-use lib.Dec.{eqb, ltb}
-use Rattle.refusal.specs.Choice.{pick}
-use Rattle.crc.specs.Register.{bits}
+use lib.Dec.{eqb}
+use lib.ListN.{length, getD}
+use Rattle.lists.specs.Choice.{pick}
+use Rattle.crc.specs.Check.{modbusCheck}
 
--- eBUS: double the register and put the bit in its low place; past eight bits, take 100 away and xor with 9B
-unfoldable pub ebusIn : ℕ → ℕ → ℕ
-ebusIn register bit = pick (ltb (register * 2 + bit) 0x100) (register * 2 + bit) (bitXor (register * 2 + bit - 0x100) 0x9B)
-
-unfoldable pub ebusAll : ℕ → List ℕ → ℕ
-ebusAll register [] = register
-ebusAll register (bit ∷ rest) = ebusAll (ebusIn register bit) rest
-
-unfoldable pub ebusRule : ℕ → List ℕ → ℕ
-ebusRule register [] = register
-ebusRule register (b ∷ bs) = ebusRule (ebusAll register (bits 8 b)) bs
-
--- Modbus: halve the register; where its low bit was 1, xor with A001
+-- halve the register; where its low bit was 1, xor with A001
 unfoldable pub modbusOne : ℕ → ℕ
 modbusOne register = pick (eqb (register % 2) 1) (bitXor (register / 2) 0xA001) (register / 2)
 
@@ -32,3 +22,18 @@ modbusTimes (suc n) register = modbusTimes n (modbusOne register)
 unfoldable pub modbusRule : ℕ → List ℕ → ℕ
 modbusRule register [] = register
 modbusRule register (b ∷ bs) = modbusRule (modbusTimes 8 (bitXor register b)) bs
+
+-- it is the check, on every input
+abbrev pub ModbusIsBitByBit : Type 0
+ModbusIsBitByBit = (bytes : List ℕ) → modbusCheck bytes ≡ modbusRule 0xFFFF bytes
+
+-- ---- the table of a byte's eight steps
+
+-- 256 entries, each of which is what a rule makes of its index
+pub record TableOf (rule : ℕ → ℕ) (table : List ℕ) : Type 0 where
+  pub size : length table ≡ 256
+  pub entry : (k : ℕ) → k < 256 → getD table k 0 ≡ rule k
+
+-- the Modbus table: entry k is what eight halvings make of a register that holds k
+abbrev pub ModbusTable : List ℕ → Type 0
+ModbusTable table = TableOf (modbusTimes 8) table

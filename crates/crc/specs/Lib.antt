@@ -1,5 +1,4 @@
--- The check rules: the register step, the two checks, and the paper's bit-by-bit rule in its own words.
+-- The register step that every check is made of, the Modbus check, and its bit-by-bit rule as the public routine has it.
 pub mod Register
-pub mod Escape
 pub mod Check
 pub mod BitByBit

@@ -1,49 +1,27 @@
-// The two checks: the eBUS check byte and the Modbus check, one byte a step from a table.
+// The Modbus check, one byte a step from a table, and what every check is made of: the register step
+// over direction, width and polynomial, with its laws.
 //
-// Document 01, "eBUS check byte and escapes" and "Fast Modbus scan frames". Each table agrees at
-// every entry with the bit-by-bit rule (proofs/Table.antt). The loop's own function takes the
-// table once: a constant array has no storage of its own, and one that is indexed inside a small
-// function is built on the stack again at each call.
+// The loop's own function takes the table once: a constant array has no storage of its own, and one
+// that is indexed inside a small function is built on the stack again at each call.
 mod tables;
 
-use tables::EBUS_TABLE;
 use tables::MODBUS_TABLE;
 ghost use mathlib.Core.Path.{_≡_};
-ghost use Rattle.crc.specs.Check.{ebusCheck, modbusCheck};
+ghost use Rattle.crc.specs.BitByBit.{ModbusTable};
+ghost use Rattle.crc.specs.Check.{modbusCheck};
 
-const ESC: u8 = 0xA9;
-
-const SYN: u8 = 0xAA;
-
-// The eBUS check byte of logical bytes: A9 counts as A9 00 and AA as A9 01.
-pub fn ebus_check(logical: &[u8]) -> u8
-    ensures { λ r. ⌜ r ≡ ebusCheck (now (logical .entry)) ⌝ }
+// The table: at every entry, eight steps of the bit-by-bit rule.
+fn modbus_table() -> [u16; 256]
+    ensures { λ r. ⌜ ModbusTable r ⌝ }
 {
-    let table = EBUS_TABLE;
-    let mut register: u8 = 0;
-    let mut i = 0;
-    while i < logical.len() {
-        let byte = logical[i];
-        let at = register as usize;
-        i += 1;
-        match byte {
-            ESC | SYN => {
-                let second = (table[at] ^ ESC) as usize;
-                register = table[second] ^ (byte - ESC);
-            }
-            _ => {
-                register = table[at] ^ byte;
-            }
-        }
-    }
-    register
+    MODBUS_TABLE
 }
 
 // The Modbus check of the bytes.
 pub fn modbus_check(bytes: &[u8]) -> u16
     ensures { λ r. ⌜ r ≡ modbusCheck (now (bytes .entry)) ⌝ }
 {
-    let table = MODBUS_TABLE;
+    let table = modbus_table();
     let mut register: u32 = 0xFFFF;
     let mut i = 0;
     while i < bytes.len() {

@@ -1,12 +1,12 @@
 -- Laws of one request, of the calls and of the whole scan.
-pub mod Lists
 pub mod Keys
-pub mod Strongest
-pub mod Turns
-pub mod Kept
-pub mod Guarded
-pub mod Bytes
-pub mod Counting
-pub mod Steps
-pub mod Going
+pub mod Winner
+pub mod TurnCases
+pub mod TurnKeeps
+pub mod GuardCases
+pub mod CallCases
+pub mod AnswerBytes
+pub mod ScanSteps
+pub mod ScanUnderWay
 pub mod Worked
+pub mod AnyMarkBits

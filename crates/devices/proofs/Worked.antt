@@ -3,11 +3,12 @@
 use mathlib.Core.Path.{_≡_, refl}
 use mathlib.Core.List.{List, [], _∷_}
 use Prim.Native.Nat.{ℕ, suc}
-use Rattle.arbitration.specs.Contest.{some, keep, remaining, dominantWindows, winner}
-use Rattle.table.specs.Table.{Table, columns, every, different, valid}
-use Rattle.devices.specs.Request.{key, keysOf, position, winnerPlace, contend, respond}
-use Rattle.devices.specs.Calls.{guard}
-use Rattle.devices.specs.WholeScan.{scanFrom, serialsHeard, addressesHeard, closing, scanCall}
+use Rattle.lists.specs.Tests.{any, keep, all, different, position}
+use Rattle.arbitration.specs.Contest.{remaining, dominantWindows, winner, decided}
+use Rattle.table.specs.Table.{Table, columns, valid}
+use Rattle.devices.specs.Request.{keyWith, forEach, contend, respond}
+use Rattle.devices.specs.Guard.{guard}
+use Rattle.devices.specs.WholeScan.{scanFrom, leftBy, serialsHeard, addressesHeard, closing, scanCall}
 use Rattle.devices.specs.declared.Scanned.the-variants.{Complete, Nobody, Unfinished}
 
 -- three devices, none scanned
@@ -19,21 +20,21 @@ room x y z = x ∷ y ∷ z ∷ []
 
 -- W12 "serials 0001EB37, 5, 9: listed 5, 9, 0001EB37 in 4 requests", under any cap that allows as many
 pub w12 : (a b c p q r x y z more : ℕ)
-    → (scanCall (suc (suc (suc (suc more)))) (room p q r) (room x y z) (three a b c) .answer ≡ Complete 4)
+    → (scanCall (suc (suc (suc (suc more)))) (room p q r) (room x y z) (three a b c) .scanned ≡ Complete 4)
     × (scanCall (suc (suc (suc (suc more)))) (room p q r) (room x y z) (three a b c) .serials ≡ 5 ∷ 9 ∷ 0x0001EB37 ∷ [])
     × (scanCall (suc (suc (suc (suc more)))) (room p q r) (room x y z) (three a b c) .addresses ≡ b ∷ c ∷ a ∷ [])
-unfolding some keep remaining dominantWindows winner every different valid key keysOf position winnerPlace contend respond guard scanFrom serialsHeard addressesHeard closing scanCall
+unfolding any keep remaining dominantWindows winner decided all different valid keyWith forEach position contend respond guard scanFrom leftBy serialsHeard addressesHeard closing scanCall
 w12 a b c p q r x y z more = (refl, refl, refl)
 
 -- W13 "cap 3 lists the same, Unfinished, 3"
 pub w13 : (a b c p q r x y z : ℕ)
-    → (scanCall 3 (room p q r) (room x y z) (three a b c) .answer ≡ Unfinished 3)
+    → (scanCall 3 (room p q r) (room x y z) (three a b c) .scanned ≡ Unfinished 3)
     × (scanCall 3 (room p q r) (room x y z) (three a b c) .serials ≡ 5 ∷ 9 ∷ 0x0001EB37 ∷ [])
     × (scanCall 3 (room p q r) (room x y z) (three a b c) .addresses ≡ b ∷ c ∷ a ∷ [])
-unfolding some keep remaining dominantWindows winner every different valid key keysOf position winnerPlace contend respond guard scanFrom serialsHeard addressesHeard closing scanCall
+unfolding any keep remaining dominantWindows winner decided all different valid keyWith forEach position contend respond guard scanFrom leftBy serialsHeard addressesHeard closing scanCall
 w13 a b c p q r x y z = (refl, refl, refl)
 
 -- W14 "no device, cap 1: Nobody, 1"
-pub w14 : scanCall 1 [] [] (columns [] [] []) .answer ≡ Nobody 1
-unfolding some keep remaining dominantWindows winner every different valid key keysOf position winnerPlace contend respond guard scanFrom serialsHeard addressesHeard closing scanCall
+pub w14 : scanCall 1 [] [] (columns [] [] []) .scanned ≡ Nobody 1
+unfolding any keep remaining dominantWindows winner decided all different valid keyWith forEach position contend respond guard scanFrom leftBy serialsHeard addressesHeard closing scanCall
 w14 = refl

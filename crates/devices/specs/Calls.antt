@@ -1,14 +1,12 @@
--- The calls: start, continue, and a raw frame offered to the devices. Each is the one operation of Request.antt behind one
--- guard.
+-- The calls: a request as it was read, and as three uses of it a start, a continue, and a raw frame offered to the devices.
+-- Each is the one operation of Request.antt behind one guard. Rules D6, D7, N1.
 -- Assumes nothing.
 use mathlib.Core.Path.{_≡_}
 use Prim.Native.Nat.{ℕ}
 use mathlib.Core.List.{List, [], _∷_, _++_}
-use lib.Dec.{ltb}
 use lib.ListN.{length, replicate}
-use Rattle.refusal.specs.Choice.{pick}
-use Rattle.refusal.specs.Number.{outputShort, tableNotValid, at-place}
-use Rattle.refusal.specs.Output.{starting}
+use Rattle.lists.specs.Starting.{starting}
+use Rattle.refusal.specs.Numbers.{Numbers, acceptedWith, refusedWith}
 use Rattle.refusal.specs.declared.Refusal.{Refusal}
 use Rattle.fastmodbus.specs.Layout.{foundFrame, endFrame}
 use Rattle.fastmodbus.specs.Reading.{fill, readRequest}
@@ -17,85 +15,85 @@ use Rattle.fastmodbus.specs.declared.Request.the-variants.{Start, Continue}
 use Rattle.fastmodbus.specs.declared.RequestRead.{RequestRead}
 use Rattle.fastmodbus.specs.declared.RequestRead.the-variants.{Asked, Refused as RequestRefused}
 use Rattle.table.specs.Table.{Table, valid}
-use Rattle.devices.specs.Request.{respond}
-use Rattle.devices.specs.declared.bus.Reply.{Reply}
-use Rattle.devices.specs.declared.bus.Reply.the-variants.{Silence, Found, Ended}
+use Rattle.devices.specs.Request.{Turn, respond}
+use Rattle.devices.specs.Guard.{guard}
+use Rattle.devices.specs.declared.bus.Answer.{Answer}
+use Rattle.devices.specs.declared.bus.Answer.the-variants.{Silence, Found, End}
 use Rattle.devices.specs.declared.guard.Guard.{Guard}
 use Rattle.devices.specs.declared.guard.Guard.the-variants.{Passed, Refused as GuardRefused}
-use Rattle.devices.specs.declared.Answer.{Answer}
-use Rattle.devices.specs.declared.Answer.the-variants.{Answered, Silent, Refused}
+use Rattle.devices.specs.declared.Response.{Response}
+use Rattle.devices.specs.declared.Response.the-variants.{Answered, Silent, Refused}
 
--- "The answer written is one FF for each dominant window, then the frame"; on an empty table "no bytes"
-unfoldable pub replyBytes : Reply → List ℕ
-replyBytes Silence = []
-replyBytes (Found dominant serial address) = replicate dominant fill ++ foundFrame serial address
-replyBytes (Ended dominant) = replicate dominant fill ++ endFrame
+-- an answer on the bus is an FF for each window that was dominant and the frame behind them; silence is nothing (rule D6)
+unfoldable pub answerBytes : Answer → List ℕ
+answerBytes Silence = []
+answerBytes (Found dominant serial address) = replicate dominant fill ++ foundFrame serial address
+answerBytes (End dominant) = replicate dominant fill ++ endFrame
 
--- "Order: 1, then 2, then the input": the first two, for outputs with this much room of which so much is needed
-unfoldable pub guard : ℕ → ℕ → Table → Guard
-guard needed room t =
-    pick (ltb room needed) (GuardRefused (at-place outputShort 0)) (pick (valid t) Passed (GuardRefused (at-place tableNotValid 0)))
+-- a response as numbers: how many bytes the answer has; silence has none
+abbrev pub responseNumbers : Response → Numbers
+responseNumbers (Answered n) = acceptedWith (n ∷ [])
+responseNumbers Silent = acceptedWith []
+responseNumbers (Refused why) = refusedWith why
 
--- a request that was made, and what the devices answered
-pub record Exchange : Type 0 where
-  pub request : Request
-  pub reply : Reply
-
--- what a call gives: the answer, the lent buffer afterwards, the table afterwards, and the requests that it made
+-- what a call gives: the response, the lent buffer afterwards, the table afterwards, and the turns that it made
 pub record Answering : Type 0 where
-  pub answer : Answer
+  pub response : Response
   pub buffer : List ℕ
   pub table : Table
-  pub exchanges : List Exchange
+  pub turns : List Turn
 
--- what a call is promised to give: that answer, and those contents of what it was lent
-pub record Gives (given : Answering) (answer : Answer) (buffer marks : List ℕ) : Type 0 where
-  pub answer-is : answer ≡ given .answer
+-- what a call is promised to give: its result, which shows the response (as itself, or as a caller of another language
+-- takes it), and what the lent buffer and the table hold afterwards
+pub record Gives {A : Type 0} (shows : Response → A) (given : Answering) (r : A) (buffer : List ℕ) (t : Table) : Type 0 where
+  pub result : r ≡ shows (given .response)
   pub buffer-is : buffer ≡ given .buffer
-  pub marks-are : marks ≡ given .table .marks
+  pub table-is : t ≡ given .table
 
--- "The answer buffer holds at least 42 bytes."
+-- the longest answer has an FF for each of 32 windows and a frame of 10 bytes (rule D6)
 abbrev pub answerRoom : ℕ
 answerRoom = 42
 
--- a refusal: "Nothing lent is changed", and no request is made
+-- a refusal leaves all that was lent as it was, and no request is made (rule N1)
 abbrev pub refusing : Refusal → List ℕ → Table → Answering
-refusing why buffer t = record { answer = Refused why; buffer = buffer; table = t; exchanges = [] }
+refusing why buffer t = record { response = Refused why; buffer = buffer; table = t; turns = [] }
 
 -- silence, or the length of the answer
-abbrev pub answerOf : Reply → Answer
-answerOf Silence = Silent
-answerOf (Found dominant serial address) = Answered (length (replyBytes (Found dominant serial address)))
-answerOf (Ended dominant) = Answered (length (replyBytes (Ended dominant)))
+abbrev pub responseTo : Answer → Response
+responseTo Silence = Silent
+responseTo (Found dominant serial address) = Answered (length (answerBytes (Found dominant serial address)))
+responseTo (End dominant) = Answered (length (answerBytes (End dominant)))
 
--- a request made: the buffer starts with the answer, "bytes behind it stay"
+-- a request made: the answer overwrites the start of the buffer and nothing behind it (rule D6)
 unfoldable pub answering : Request → List ℕ → Table → Answering
 answering request buffer t =
     record {
-      answer = answerOf (respond request t .reply);
-      buffer = starting (replyBytes (respond request t .reply)) buffer;
+      response = responseTo (respond request t .answer);
+      buffer = starting (answerBytes (respond request t .answer)) buffer;
       table = respond request t .table;
-      exchanges = record { request = request; reply = respond request t .reply } ∷ [];
+      turns = respond request t ∷ [];
     }
 
--- what was read is the request it names, or "one it refuses gives that reader's number and changes nothing"
+-- what the reader took is the request that it found; what the reader refused is refused as the reader did (rule D7)
 abbrev pub reading : RequestRead → List ℕ → Table → Answering
 reading (Asked request) buffer t = answering request buffer t
 reading (RequestRefused why) buffer t = refusing why buffer t
 
+-- first the guard, then what was read (rule N2)
 abbrev pub behind : Guard → RequestRead → List ℕ → Table → Answering
 behind Passed read buffer t = reading read buffer t
 behind (GuardRefused why) read buffer t = refusing why buffer t
 
-unfoldable pub called : RequestRead → List ℕ → Table → Answering
-called read buffer t = behind (guard answerRoom (length buffer) t) read buffer t
+-- the call
+unfoldable pub askCall : RequestRead → List ℕ → Table → Answering
+askCall read buffer t = behind (guard answerRoom (length buffer) (valid t)) read buffer t
 
--- the three calls
+-- its three uses
 abbrev pub startCall : List ℕ → Table → Answering
-startCall buffer t = called (Asked Start) buffer t
+startCall buffer t = askCall (Asked Start) buffer t
 
 abbrev pub continueCall : List ℕ → Table → Answering
-continueCall buffer t = called (Asked Continue) buffer t
+continueCall buffer t = askCall (Asked Continue) buffer t
 
 abbrev pub offerCall : List ℕ → List ℕ → Table → Answering
-offerCall frame buffer t = called (readRequest frame) buffer t
+offerCall frame buffer t = askCall (readRequest frame) buffer t

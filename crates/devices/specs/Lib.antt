@@ -1,6 +1,8 @@
--- The devices' side of a scan: one request, the calls, and the whole scan.
+-- The devices' side of a scan: one request, the guard, the calls, and the whole scan.
 pub mod Request
+pub mod Guard
 pub mod Calls
-pub mod Replies
 pub mod WholeScan
 pub mod Rank
+pub mod MarkBits
+pub mod Inner

@@ -1,18 +1,11 @@
--- A device's rank: how many serials are smaller. The k-th smallest serial is the one of rank k - 1.
+-- A device's rank: how many serials are smaller. The k-th smallest serial is the one of rank k - 1. Used by rule D9.
 -- Assumes nothing.
-use Prim.Native.Nat.{ℕ, _+_}
-use mathlib.Core.Bool.{Bool}
-use mathlib.Core.List.{List, [], _∷_}
+use Prim.Native.Nat.{ℕ}
 use lib.Dec.{ltb}
 use lib.ListN.{getD}
-use Rattle.refusal.specs.Choice.{pick}
+use Rattle.lists.specs.Tests.{howMany}
 use Rattle.table.specs.Table.{Table}
-
--- how many numbers pass a test
-unfoldable pub count : (ℕ → Bool) → List ℕ → ℕ
-count test [] = 0
-count test (x ∷ xs) = pick (test x) 1 0 + count test xs
 
 -- how many serials of the table are smaller than the one at this place
 unfoldable pub rank : Table → ℕ → ℕ
-rank t place = count (λ serial. ltb serial (getD (t .serials) place 0)) (t .serials)
+rank t place = howMany (λ serial. ltb serial (getD (t .serials) place 0)) (t .serials)

@@ -1,83 +1,68 @@
--- Document 01, "Devices and arbitration": one request to the devices.
+-- One request to the devices. Rules D2 to D5.
 -- Assumes nothing.
-use mathlib.Core.Path.{_≡_}
-use Prim.Native.Nat.{ℕ, zero, suc, _+_, _*_}
+use Prim.Native.Nat.{ℕ, _+_, _*_}
 use mathlib.Core.List.{List, [], _∷_}
 use lib.Dec.{eqb}
 use lib.ListN.{length, getD, set, replicate}
-use Rattle.refusal.specs.Choice.{pick}
-use Rattle.arbitration.specs.Contest.{winner, dominantWindows}
+use Rattle.lists.specs.Choice.{pick}
+use Rattle.arbitration.specs.Contest.{decided}
+use Rattle.arbitration.specs.declared.Decided.{Decided}
 use Rattle.table.specs.Table.{Table, devices, marked, serialLimit}
 use Rattle.fastmodbus.specs.declared.Request.{Request}
 use Rattle.fastmodbus.specs.declared.Request.the-variants.{Start, Continue}
-use Rattle.devices.specs.declared.bus.Reply.{Reply}
-use Rattle.devices.specs.declared.bus.Reply.the-variants.{Silence, Found, Ended}
+use Rattle.devices.specs.declared.bus.Answer.{Answer}
+use Rattle.devices.specs.declared.bus.Answer.the-variants.{Silence, Found, End}
 
--- "if a number is not found there, use 0 for unscanned and 15 for scanned"
-abbrev pub markBits : ℕ → ℕ
-markBits mark = pick (eqb mark 0) 0 15
+-- a device's key (rule D2): four mark bits, one number of an unscanned and another of a scanned device, above 28 bits of serial
+unfoldable pub keyWith : ℕ → ℕ → ℕ → ℕ → ℕ
+keyWith unscanned scanned mark serial = pick (eqb mark 0) unscanned scanned * serialLimit + serial
 
--- "A device's key has 32 bits: four mark bits, then 28 of its serial."
-unfoldable pub key : ℕ → ℕ → ℕ
-key mark serial = markBits mark * serialLimit + serial
+-- the numbers are 0 and 15 (rule D2)
+abbrev pub key : ℕ → ℕ → ℕ
+key mark serial = keyWith 0 15 mark serial
+
+-- a number for each device, by its mark and its serial
+unfoldable pub forEach : (ℕ → ℕ → ℕ) → List ℕ → List ℕ → List ℕ
+forEach number [] marks = []
+forEach number (s ∷ ss) [] = []
+forEach number (s ∷ ss) (m ∷ ms) = number m s ∷ forEach number ss ms
 
 -- the keys of all devices
-unfoldable pub keysOf : List ℕ → List ℕ → List ℕ
-keysOf [] marks = []
-keysOf (s ∷ ss) [] = []
-keysOf (s ∷ ss) (m ∷ ms) = key m s ∷ keysOf ss ms
+abbrev pub keysOf : List ℕ → List ℕ → List ℕ
+keysOf serials marks = forEach key serials marks
 
 abbrev pub keys : Table → List ℕ
 keys t = keysOf (t .serials) (t .marks)
 
--- where a number stands first
-unfoldable pub position : ℕ → List ℕ → ℕ
-position x [] = zero
-position x (y ∷ ys) = pick (eqb y x) zero (suc (position x ys))
-
--- "Arbitration has 32 windows"
+-- a window for each bit of a key (rule D3)
 abbrev pub windows : ℕ
 windows = 32
 
--- which device remains after the last window
-unfoldable pub winnerPlace : List ℕ → ℕ
-winnerPlace contending = position (winner windows contending) contending
+-- what the contest of all devices decides, with the marks as they stand: where the one that remains stands in the table, and
+-- how many windows were dominant
+abbrev pub contest : Table → Decided
+contest t = decided windows (keys t)
 
--- "A dominant window puts one FF on the bus": how many do
-abbrev pub fillOf : List ℕ → ℕ
-fillOf contending = dominantWindows windows contending
+-- the winner names itself where it is unscanned, and is the end where it is scanned (rule D5)
+abbrev pub foundAnswer : Table → Answer
+foundAnswer t =
+    Found (contest t .dominant) (getD (t .serials) (contest t .place) 0) (getD (t .addresses) (contest t .place) 0)
 
--- what the devices answer to a request, and the table after it
-pub record Turn : Type 0 where
-  pub reply : Reply
-  pub table : Table
+abbrev pub endAnswer : Table → Answer
+endAnswer t = End (contest t .dominant)
 
--- what a function on lent columns gives is that turn: its answer, and the marks afterwards
-pub record IsTurn (turn : Turn) (reply : Reply) (marks : List ℕ) : Type 0 where
-  pub reply-is : reply ≡ turn .reply
-  pub marks-are : marks ≡ turn .table .marks
+-- all devices contend with the marks as they stand; where there is none, nobody answers (rule D5)
+unfoldable pub contend : Table → Answer
+contend t =
+    pick (eqb (devices t) 0) Silence (pick (eqb (getD (t .marks) (contest t .place) 0) 0) (foundAnswer t) (endAnswer t))
 
--- "An unscanned winner answers 03 and its mark becomes 1"
-abbrev pub foundTurn : Table → Turn
-foundTurn t =
-    record {
-      reply = Found (fillOf (keys t)) (getD (t .serials) (winnerPlace (keys t)) 0) (getD (t .addresses) (winnerPlace (keys t)) 0);
-      table = marked t (set (t .marks) (winnerPlace (keys t)) 1);
-    }
+-- the table after an answer: the mark of the one that was found becomes 1; an end and silence leave it as it is (rule D5)
+abbrev pub tableAfter : Answer → Table → Table
+tableAfter (Found dominant serial address) t = marked t (set (t .marks) (contest t .place) 1)
+tableAfter (End dominant) t = t
+tableAfter Silence t = t
 
--- "a scanned winner answers 04 and nothing changes"
-abbrev pub endedTurn : Table → Turn
-endedTurn t = record { reply = Ended (fillOf (keys t)); table = t }
-
--- "An empty table gives silence"
-abbrev pub silentTurn : Table → Turn
-silentTurn t = record { reply = Silence; table = t }
-
--- all devices contend with the marks as they stand
-unfoldable pub contend : Table → Turn
-contend t = pick (eqb (devices t) 0) (silentTurn t) (pick (eqb (getD (t .marks) (winnerPlace (keys t)) 0) 0) (foundTurn t) (endedTurn t))
-
--- "Start sets all marks to 0, then all devices contend. Continue lets all contend with the marks as they stand."
+-- the table that contends: a start forgets who was scanned, a continue does not (rule D4)
 abbrev pub cleared : Table → Table
 cleared t = marked t (replicate (length (t .marks)) 0)
 
@@ -85,6 +70,19 @@ abbrev pub standing : Request → Table → Table
 standing Start t = cleared t
 standing Continue t = t
 
+-- a request made: the table that it met, what the devices answered, and the table after it
+pub record Turn : Type 0 where
+  pub request : Request
+  pub met : Table
+  pub answer : Answer
+  pub table : Table
+
 -- one request to the devices: the one operation of start, continue, a raw frame and the whole scan
 unfoldable pub respond : Request → Table → Turn
-respond request t = contend (standing request t)
+respond request t =
+    record {
+      request = request;
+      met = t;
+      answer = contend (standing request t);
+      table = tableAfter (contend (standing request t)) (standing request t);
+    }

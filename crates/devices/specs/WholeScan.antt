@@ -1,108 +1,114 @@
--- A whole scan: "sends a start, then continues, until end, silence or the caller's cap".
+-- A whole scan, request by request under the caller's cap. Rule D8.
 -- Assumes nothing.
 use mathlib.Core.Path.{_≡_}
 use Prim.Native.Nat.{ℕ, zero, suc, min}
 use mathlib.Core.List.{List, [], _∷_}
 use lib.ListN.{length}
-use Rattle.refusal.specs.Output.{starting}
+use Rattle.lists.specs.Starting.{starting}
+use Rattle.refusal.specs.Numbers.{Numbers, acceptedWith, refusedWith}
 use Rattle.refusal.specs.declared.Refusal.{Refusal}
 use Rattle.fastmodbus.specs.declared.Request.{Request}
 use Rattle.fastmodbus.specs.declared.Request.the-variants.{Start, Continue}
-use Rattle.table.specs.Table.{Table, devices}
-use Rattle.devices.specs.Request.{respond}
-use Rattle.devices.specs.Calls.{Exchange, guard}
-use Rattle.devices.specs.declared.bus.Reply.{Reply}
-use Rattle.devices.specs.declared.bus.Reply.the-variants.{Silence, Found, Ended}
+use Rattle.table.specs.Table.{Table, devices, valid}
+use Rattle.devices.specs.Request.{Turn, respond}
+use Rattle.devices.specs.Guard.{guard}
+use Rattle.devices.specs.declared.bus.Answer.{Answer}
+use Rattle.devices.specs.declared.bus.Answer.the-variants.{Silence, Found, End}
 use Rattle.devices.specs.declared.guard.Guard.{Guard}
 use Rattle.devices.specs.declared.guard.Guard.the-variants.{Passed, Refused as GuardRefused}
 use Rattle.devices.specs.declared.Scanned.{Scanned}
 use Rattle.devices.specs.declared.Scanned.the-variants.{Complete, Nobody, Unfinished, Refused}
 
--- requests made one after the other, and the table after them
-pub record Trace : Type 0 where
-  pub exchanges : List Exchange
-  pub table : Table
-
 -- a device was found, so the scan goes on; end and silence end it
-abbrev pub onward : Reply → Trace → Table → Trace
-onward (Found dominant serial address) later t = later
-onward (Ended dominant) later t = record { exchanges = []; table = t }
-onward Silence later t = record { exchanges = []; table = t }
+abbrev pub onward : Answer → List Turn → List Turn
+onward (Found dominant serial address) later = later
+onward (End dominant) later = []
+onward Silence later = []
 
--- the scan from a request on, with so many requests left under the cap: each step is the one operation
-unfoldable pub scanFrom : ℕ → Request → Table → Trace
-scanFrom zero request t = record { exchanges = []; table = t }
+-- the turns of a scan from a request on, with so many requests left under the cap: each is the one operation, on the table
+-- that the one before left
+unfoldable pub scanFrom : ℕ → Request → Table → List Turn
+scanFrom zero request t = []
 scanFrom (suc cap) request t =
-    record {
-      exchanges =
-          record { request = request; reply = respond request t .reply }
-          ∷ onward (respond request t .reply) (scanFrom cap Continue (respond request t .table)) (respond request t .table) .exchanges;
-      table = onward (respond request t .reply) (scanFrom cap Continue (respond request t .table)) (respond request t .table) .table;
-    }
+    respond request t ∷ onward (respond request t .answer) (scanFrom cap Continue (respond request t .table))
 
--- "the serials and addresses in the order heard"
-abbrev pub serialIn : Reply → List ℕ → List ℕ
+-- the table after turns that began with this one
+unfoldable pub leftBy : List Turn → Table → Table
+leftBy [] t = t
+leftBy (turn ∷ turns) t = leftBy turns (turn .table)
+
+-- what the two lists are to hold: each device found, in the order of the turns
+abbrev pub serialIn : Answer → List ℕ → List ℕ
 serialIn (Found dominant serial address) later = serial ∷ later
-serialIn (Ended dominant) later = later
+serialIn (End dominant) later = later
 serialIn Silence later = later
 
-abbrev pub addressIn : Reply → List ℕ → List ℕ
+abbrev pub addressIn : Answer → List ℕ → List ℕ
 addressIn (Found dominant serial address) later = address ∷ later
-addressIn (Ended dominant) later = later
+addressIn (End dominant) later = later
 addressIn Silence later = later
 
-unfoldable pub serialsHeard : List Exchange → List ℕ
+unfoldable pub serialsHeard : List Turn → List ℕ
 serialsHeard [] = []
-serialsHeard (e ∷ es) = serialIn (e .reply) (serialsHeard es)
+serialsHeard (turn ∷ turns) = serialIn (turn .answer) (serialsHeard turns)
 
-unfoldable pub addressesHeard : List Exchange → List ℕ
+unfoldable pub addressesHeard : List Turn → List ℕ
 addressesHeard [] = []
-addressesHeard (e ∷ es) = addressIn (e .reply) (addressesHeard es)
+addressesHeard (turn ∷ turns) = addressIn (turn .answer) (addressesHeard turns)
 
--- "It answers Complete, Nobody or Unfinished": by end, by silence, or by neither
-abbrev pub closedBy : Reply → (ℕ → Scanned) → ℕ → Scanned
+-- how a scan closed: Complete by an end, Nobody by silence, Unfinished by neither
+abbrev pub closedBy : Answer → (ℕ → Scanned) → ℕ → Scanned
 closedBy (Found dominant serial address) later = later
-closedBy (Ended dominant) later = Complete
+closedBy (End dominant) later = Complete
 closedBy Silence later = Nobody
 
-unfoldable pub closing : List Exchange → ℕ → Scanned
+unfoldable pub closing : List Turn → ℕ → Scanned
 closing [] = Unfinished
-closing (e ∷ es) = closedBy (e .reply) (closing es)
+closing (turn ∷ turns) = closedBy (turn .answer) (closing turns)
 
--- what the call gives: the answer, the two lent lists afterwards, the table afterwards, and the requests that it made
+-- rule D8: a scan's answer as numbers: how it ended, the requests sent, and how many devices were heard, which its lists hold
+abbrev pub scannedNumbers : Scanned → ℕ → Numbers
+scannedNumbers (Complete n) heard = acceptedWith (1 ∷ n ∷ heard ∷ [])
+scannedNumbers (Nobody n) heard = acceptedWith (2 ∷ n ∷ heard ∷ [])
+scannedNumbers (Unfinished n) heard = acceptedWith (3 ∷ n ∷ heard ∷ [])
+scannedNumbers (Refused why) heard = refusedWith why
+
+-- what the call gives: how the scan closed, the two lent lists afterwards, the table afterwards, and the turns that it made
 pub record Scanning : Type 0 where
-  pub answer : Scanned
+  pub scanned : Scanned
   pub serials : List ℕ
   pub addresses : List ℕ
   pub table : Table
-  pub exchanges : List Exchange
+  pub turns : List Turn
 
--- what the call is promised to give
-pub record GivesScan (given : Scanning) (answer : Scanned) (serials addresses marks : List ℕ) : Type 0 where
-  pub answer-is : answer ≡ given .answer
+-- what the call is promised to give: its result, which shows how the scan closed and may show how many devices were heard,
+-- and what the two lists and the table hold afterwards
+pub record GivesScan {A : Type 0} (shows : Scanned → ℕ → A) (given : Scanning) (r : A) (serials addresses : List ℕ) (t : Table) : Type 0 where
+  pub result : r ≡ shows (given .scanned) (length (serialsHeard (given .turns)))
   pub serials-are : serials ≡ given .serials
   pub addresses-are : addresses ≡ given .addresses
-  pub marks-are : marks ≡ given .table .marks
+  pub table-is : t ≡ given .table
 
--- "with the number of requests sent": as many as the scan made; "entries behind those heard stay"
-abbrev pub concluded : List ℕ → List ℕ → Trace → Scanning
-concluded serials addresses trace =
+-- what a scan comes to: its number is that of the turns, and the lists are overwritten only as far as something was heard
+abbrev pub concluded : List ℕ → List ℕ → Table → List Turn → Scanning
+concluded serials addresses t turns =
     record {
-      answer = closing (trace .exchanges) (length (trace .exchanges));
-      serials = starting (serialsHeard (trace .exchanges)) serials;
-      addresses = starting (addressesHeard (trace .exchanges)) addresses;
-      table = trace .table;
-      exchanges = trace .exchanges;
+      scanned = closing turns (length turns);
+      serials = starting (serialsHeard turns) serials;
+      addresses = starting (addressesHeard turns) addresses;
+      table = leftBy turns t;
+      turns = turns;
     }
 
+-- a refusal leaves all that was lent as it was, and no request is made (rule N1)
 abbrev pub scanRefusing : Refusal → List ℕ → List ℕ → Table → Scanning
-scanRefusing why serials addresses t = record { answer = Refused why; serials = serials; addresses = addresses; table = t; exchanges = [] }
+scanRefusing why serials addresses t = record { scanned = Refused why; serials = serials; addresses = addresses; table = t; turns = [] }
 
 abbrev pub scanBehind : Guard → ℕ → List ℕ → List ℕ → Table → Scanning
-scanBehind Passed cap serials addresses t = concluded serials addresses (scanFrom cap Start t)
+scanBehind Passed cap serials addresses t = concluded serials addresses t (scanFrom cap Start t)
 scanBehind (GuardRefused why) cap serials addresses t = scanRefusing why serials addresses t
 
--- "The two list buffers must have room for as many entries as the serial column"
+-- the call: each of the two lists has room for all devices, so the shorter one is measured (rules D8, N2)
 unfoldable pub scanCall : ℕ → List ℕ → List ℕ → Table → Scanning
 scanCall cap serials addresses t =
-    scanBehind (guard (devices t) (min (length serials) (length addresses)) t) cap serials addresses t
+    scanBehind (guard (devices t) (min (length serials) (length addresses)) (valid t)) cap serials addresses t

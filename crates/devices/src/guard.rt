@@ -1,12 +1,10 @@
-// The one guard before every call: "1, then 2, then the input".
+// The one guard before every call (rule N2): number 1, then number 2, then the input.
 use refusal::OUTPUT_SHORT;
 use refusal::Refusal;
 use refusal::TABLE_NOT_VALID;
-use table::valid;
 ghost use mathlib.Core.Path.{_≡_};
 ghost use Prim.Native.Nat.{min};
-ghost use Rattle.table.specs.Table.{columns};
-ghost use Rattle.devices.specs.Calls.{guard};
+ghost use Rattle.devices.specs.Guard.{guard};
 
 pub enum Guard {
     Passed,
@@ -20,16 +18,10 @@ pub(crate) fn smaller(a: usize, b: usize) -> usize
     if a <= b { a } else { b }
 }
 
-// Number 1 where the lent outputs have less room than is needed, then number 2 where the table is
-// not valid.
-pub(crate) fn check(
-    needed: usize,
-    room: usize,
-    serials: &[u32],
-    addresses: &[u8],
-    marks: &[u8],
-) -> Guard
-    ensures { λ r. ⌜ r ≡ guard needed room (columns (now (serials .entry)) (now (addresses .entry)) (now (marks .entry))) ⌝ }
+// Number 1 where the lent outputs have less room than is needed, then number 2 where what the call
+// takes for valid is not.
+pub fn admit(needed: usize, room: usize, ok: bool) -> Guard
+    ensures { λ r. ⌜ r ≡ guard needed room ok ⌝ }
 {
     if room < needed {
         return Guard::Refused(Refusal {
@@ -37,7 +29,7 @@ pub(crate) fn check(
             place: 0,
         });
     }
-    if !valid(serials, addresses, marks) {
+    if !ok {
         return Guard::Refused(Refusal {
             number: TABLE_NOT_VALID,
             place: 0,

@@ -1,26 +1,28 @@
 // The devices' side of a Fast Modbus scan, as a model on a perfect bus.
 //
-// Document 01, "Devices and arbitration". The table is three lent columns. Every call checks what it
+// Rules D4 to D8. The table is three lent columns. Every call checks what it
 // was lent before it changes anything: the room of its outputs first, then the table, then its input.
 mod bus;
-mod guard;
-mod reply;
+pub mod guard;
 mod trace;
+mod wire;
 
 use fastmodbus::Request;
 use fastmodbus::RequestRead;
 use guard::Guard;
 use refusal::Refusal;
+ghost use mathlib.Mathlib.Logic.Function.Defs.{id, const};
+ghost use Prim.Native.Nat.{ℕ};
 ghost use Rattle.table.specs.Table.{columns};
-ghost use Rattle.devices.specs.Calls.{Gives, called, startCall, continueCall, offerCall};
+ghost use Rattle.devices.specs.Calls.{Gives, askCall, startCall, continueCall, offerCall};
 ghost use Rattle.devices.specs.WholeScan.{GivesScan, scanCall};
 
 // An answer buffer holds at least this: one FF for each of 32 windows, and the longest frame.
-const ANSWER_ROOM: usize = 42;
+pub const ANSWER_ROOM: usize = 42;
 
 // What a request gives: the length of the answer at the start of the buffer, silence, or the
 // refusal.
-pub enum Answer {
+pub enum Response {
     Answered(usize),
     Silent,
     Refused(Refusal),
@@ -35,53 +37,45 @@ pub enum Scanned {
     Refused(Refusal),
 }
 
-// The one operation: a request as it was read, behind the guard.
-fn answer_to(
+// A request as it was read, behind the guard: a refused one gives its reader's refusal and changes
+// nothing. The three calls below are uses of this one.
+pub fn ask(
     read: RequestRead,
     serials: &[u32],
     addresses: &[u8],
     marks: &mut [u8],
     answer: &mut [u8],
-) -> Answer
-    ensures { λ r. ⌜ Gives (called read (now (answer .entry)) (columns (now (serials .entry)) (now (addresses .entry)) (now (marks .entry)))) r (now (answer .exit)) (now (marks .exit)) ⌝ }
+) -> Response
+    ensures { λ r. ⌜ Gives id (askCall read (now (answer .entry)) (columns (now (serials .entry)) (now (addresses .entry)) (now (marks .entry)))) r (now (answer .exit)) (columns (now (serials .entry)) (now (addresses .entry)) (now (marks .exit))) ⌝ }
 {
-    let checked = guard::check(ANSWER_ROOM, answer.len(), serials, addresses, marks);
-    match checked {
-        Guard::Refused(why) => Answer::Refused(why),
+    let ok = table::valid(serials, addresses, marks);
+    let admitted = guard::admit(ANSWER_ROOM, answer.len(), ok);
+    match admitted {
+        Guard::Refused(why) => Response::Refused(why),
         Guard::Passed => match read {
-            RequestRead::Refused(why) => Answer::Refused(why),
+            RequestRead::Refused(why) => Response::Refused(why),
             RequestRead::Asked(request) => {
                 let heard = bus::respond(request, serials, addresses, marks);
-                reply::write(heard, answer)
+                wire::write(heard, answer)
             }
         },
     }
 }
 
 // A start: all marks become 0, then all devices contend.
-pub fn start(serials: &[u32], addresses: &[u8], marks: &mut [u8], answer: &mut [u8]) -> Answer
-    ensures { λ r. ⌜ Gives (startCall (now (answer .entry)) (columns (now (serials .entry)) (now (addresses .entry)) (now (marks .entry)))) r (now (answer .exit)) (now (marks .exit)) ⌝ }
+pub fn start(serials: &[u32], addresses: &[u8], marks: &mut [u8], answer: &mut [u8]) -> Response
+    ensures { λ r. ⌜ Gives id (startCall (now (answer .entry)) (columns (now (serials .entry)) (now (addresses .entry)) (now (marks .entry)))) r (now (answer .exit)) (columns (now (serials .entry)) (now (addresses .entry)) (now (marks .exit))) ⌝ }
 {
-    answer_to(
-        RequestRead::Asked(Request::Start),
-        serials,
-        addresses,
-        marks,
-        answer,
-    )
+    let read = RequestRead::Asked(Request::Start);
+    ask(read, serials, addresses, marks, answer)
 }
 
 // A continue: all devices contend with the marks as they stand.
-pub fn resume(serials: &[u32], addresses: &[u8], marks: &mut [u8], answer: &mut [u8]) -> Answer
-    ensures { λ r. ⌜ Gives (continueCall (now (answer .entry)) (columns (now (serials .entry)) (now (addresses .entry)) (now (marks .entry)))) r (now (answer .exit)) (now (marks .exit)) ⌝ }
+pub fn resume(serials: &[u32], addresses: &[u8], marks: &mut [u8], answer: &mut [u8]) -> Response
+    ensures { λ r. ⌜ Gives id (continueCall (now (answer .entry)) (columns (now (serials .entry)) (now (addresses .entry)) (now (marks .entry)))) r (now (answer .exit)) (columns (now (serials .entry)) (now (addresses .entry)) (now (marks .exit))) ⌝ }
 {
-    answer_to(
-        RequestRead::Asked(Request::Continue),
-        serials,
-        addresses,
-        marks,
-        answer,
-    )
+    let read = RequestRead::Asked(Request::Continue);
+    ask(read, serials, addresses, marks, answer)
 }
 
 // A raw frame offered to the devices: the start or the continue that it names.
@@ -91,11 +85,11 @@ pub fn offer(
     addresses: &[u8],
     marks: &mut [u8],
     answer: &mut [u8],
-) -> Answer
-    ensures { λ r. ⌜ Gives (offerCall (now (frame .entry)) (now (answer .entry)) (columns (now (serials .entry)) (now (addresses .entry)) (now (marks .entry)))) r (now (answer .exit)) (now (marks .exit)) ⌝ }
+) -> Response
+    ensures { λ r. ⌜ Gives id (offerCall (now (frame .entry)) (now (answer .entry)) (columns (now (serials .entry)) (now (addresses .entry)) (now (marks .entry)))) r (now (answer .exit)) (columns (now (serials .entry)) (now (addresses .entry)) (now (marks .exit))) ⌝ }
 {
     let read = fastmodbus::read_request(frame);
-    answer_to(read, serials, addresses, marks, answer)
+    ask(read, serials, addresses, marks, answer)
 }
 
 // A whole scan of at most so many requests. The serials and addresses heard stand at the start of
@@ -108,11 +102,12 @@ pub fn scan(
     found_addresses: &mut [u8],
     cap: usize,
 ) -> Scanned
-    ensures { λ r. ⌜ GivesScan (scanCall cap (now («found_serials» .entry)) (now («found_addresses» .entry)) (columns (now (serials .entry)) (now (addresses .entry)) (now (marks .entry)))) r (now («found_serials» .exit)) (now («found_addresses» .exit)) (now (marks .exit)) ⌝ }
+    ensures { λ r. ⌜ GivesScan (const ℕ) (scanCall cap (now («found_serials» .entry)) (now («found_addresses» .entry)) (columns (now (serials .entry)) (now (addresses .entry)) (now (marks .entry)))) r (now («found_serials» .exit)) (now («found_addresses» .exit)) (columns (now (serials .entry)) (now (addresses .entry)) (now (marks .exit))) ⌝ }
 {
     let room = guard::smaller(found_serials.len(), found_addresses.len());
-    let checked = guard::check(serials.len(), room, serials, addresses, marks);
-    match checked {
+    let ok = table::valid(serials, addresses, marks);
+    let admitted = guard::admit(serials.len(), room, ok);
+    match admitted {
         Guard::Refused(why) => Scanned::Refused(why),
         Guard::Passed => trace::run(
             serials,

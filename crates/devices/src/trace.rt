@@ -1,15 +1,16 @@
 // The requests of a whole scan, under the caller's cap.
 use crate::Scanned;
 use crate::bus;
-use crate::bus::Reply;
+use crate::bus::Answer;
 use fastmodbus::Request;
 ghost use mathlib.Core.Path.{_≡_};
 ghost use mathlib.Core.Bool.{true};
-ghost use Prim.Native.Nat.{_≤_};
+ghost use Prim.Native.Nat.{ℕ, _≤_};
 ghost use lib.Dec.{eqb};
 ghost use lib.ListN.{length};
-ghost use Rattle.refusal.specs.Choice.{pick};
+ghost use Rattle.lists.specs.Choice.{pick};
 ghost use Rattle.fastmodbus.specs.declared.Request.the-variants.{Start, Continue};
+ghost use mathlib.Mathlib.Logic.Function.Defs.{const};
 ghost use Rattle.table.specs.Table.{columns, valid};
 ghost use Rattle.devices.specs.WholeScan.{GivesScan, scanFrom, concluded};
 
@@ -24,7 +25,7 @@ fn request_after(sent: usize) -> Request
 }
 
 // Requests until end, silence or the cap. Every request before the last one found a device, so the
-// lists are as long as the requests are many.
+// number sent is also the number of entries heard.
 pub(crate) fn run(
     serials: &[u32],
     addresses: &[u8],
@@ -34,15 +35,15 @@ pub(crate) fn run(
     cap: usize,
 ) -> Scanned
     requires { ⌜ (valid (columns (now serials) (now addresses) (now marks)) ≡ true) × (length (now serials) ≤ length (now «found_serials»)) × (length (now serials) ≤ length (now «found_addresses»)) ⌝ }
-    ensures { λ r. ⌜ GivesScan (concluded (now («found_serials» .entry)) (now («found_addresses» .entry)) (scanFrom cap Start (columns (now (serials .entry)) (now (addresses .entry)) (now (marks .entry))))) r (now («found_serials» .exit)) (now («found_addresses» .exit)) (now (marks .exit)) ⌝ }
+    ensures { λ r. ⌜ GivesScan (const ℕ) (concluded (now («found_serials» .entry)) (now («found_addresses» .entry)) (columns (now (serials .entry)) (now (addresses .entry)) (now (marks .entry))) (scanFrom cap Start (columns (now (serials .entry)) (now (addresses .entry)) (now (marks .entry))))) r (now («found_serials» .exit)) (now («found_addresses» .exit)) (columns (now (serials .entry)) (now (addresses .entry)) (now (marks .exit))) ⌝ }
 {
     let mut sent = 0;
     while sent < cap {
         let request = request_after(sent);
-        let reply = bus::respond(request, serials, addresses, marks);
-        match reply {
-            Reply::Found {
-                fill: _,
+        let heard = bus::respond(request, serials, addresses, marks);
+        match heard {
+            Answer::Found {
+                dominant: _,
                 serial,
                 address,
             } => {
@@ -50,10 +51,10 @@ pub(crate) fn run(
                 found_addresses[sent] = address;
                 sent += 1;
             }
-            Reply::Ended { fill: _ } => {
+            Answer::End { dominant: _ } => {
                 return Scanned::Complete(sent + 1);
             }
-            Reply::Silence => {
+            Answer::Silence => {
                 return Scanned::Nobody(sent + 1);
             }
         }

@@ -1,21 +1,19 @@
 -- Expanding and undoing are each other's inverse, and the lengths.
 -- Assumes nothing.
-use mathlib.Core.Path.{_≡_, refl, sym, ap, ap₂, _∙_, subst}
-use mathlib.Core.Bool.{Bool, true, false}
+use mathlib.Core.Path.{_≡_, refl, sym, ap, _∙_}
 use mathlib.Core.List.{List, [], _∷_, _++_}
 use mathlib.Core.Logic.{_⊎_, inl, inr, ⊎-elim}
 use Prim.Native.Nat.{ℕ, zero, suc, _+_, _-_, _*_, _≤_, _<_}
 use native.Mathlib.Omega.{arith}
-use lib.Dec.{eqb, ltb}
-use lib.ListN.{length, getD, drop, length-drop, length-append, drop-of-length-le}
-use borrow.Author.Tests.{lt-ltb, eq-eqb, ne-eqb}
-use Rattle.refusal.specs.Choice.{pick}
-use Rattle.refusal.specs.Output.{Output, bytes, refused, content}
-use Rattle.refusal.specs.declared.Refusal.{Refusal}
-use Rattle.refusal.proofs.Cases.{le-or-lt, same-or-not}
-use Rattle.refusal.proofs.Lists.{head-within, head-is, rest-is}
-use Rattle.crc.specs.Escape.{esc, syn, escaped, expanded}
-use Rattle.crc.proofs.Escape.{escaped-plain, escaped-special}
+use lib.Dec.{eqb}
+use lib.ListN.{length, drop, length-drop, length-append, drop-of-length-le}
+use borrow.Author.Tests.{lt-ltb, ne-eqb}
+use Rattle.lists.specs.Choice.{pick}
+use Rattle.refusal.specs.Output.{Output, bytes}
+use Rattle.lists.proofs.Cases.{le-or-lt, same-or-not}
+use Rattle.lists.proofs.Filling.{head-within, head-is, rest-is}
+use Rattle.ebus.specs.Escape.{esc, syn, escaped, expanded}
+use Rattle.ebus.proofs.Escaped.{escaped-plain, escaped-special}
 use Rattle.ebus.specs.declared.escape.Logical.{Logical}
 use Rattle.ebus.specs.declared.escape.Logical.the-variants.{Byte, Refused}
 use Rattle.ebus.specs.Logical.{escapeAt, logicalAt}
@@ -63,11 +61,6 @@ module _ (run : List ℕ) (at b : ℕ) (rest : List ℕ) (on-wire : drop at run 
       (λ no. head-within run at b rest (on-wire ∙ ap (λ (l : List ℕ). l ++ rest) (escaped-plain b (no .0) (no .1)))) (kinds b)
 
 -- ---- undoing what was expanded
-
-escaped-some : (b : ℕ) → 1 ≤ length (escaped b)
-escaped-some b =
-    ⊎-elim (λ which. subst (λ (l : List ℕ). 1 ≤ length l) (sym (escaped-special b which)) (omega arith))
-    (λ no. subst (λ (l : List ℕ). 1 ≤ length l) (sym (escaped-plain b (no .0) (no .1))) (omega arith)) (kinds b)
 
 from-here : (bs run : List ℕ) (m at : ℕ) → drop at run ≡ expanded bs → length bs ≤ m → undoneFrom run m at ≡ bytes bs
 unfolding expanded undoneFrom

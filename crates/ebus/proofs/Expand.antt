@@ -6,10 +6,10 @@ use mathlib.Core.Logic.{_⊎_}
 use Prim.Native.Nat.{ℕ, _+_, _-_, _≤_, _<_}
 use native.Mathlib.Omega.{arith}
 use lib.ListN.{length, getD, take, drop, set}
-use Rattle.refusal.specs.Output.{starting}
-use Rattle.refusal.proofs.Lists.{head-within, rest-is, fill-within, fill-next}
-use Rattle.crc.specs.Escape.{esc, syn, expanded}
-use Rattle.crc.proofs.Escape.{expanded-plain, expanded-special}
+use Rattle.lists.specs.Starting.{starting}
+use Rattle.lists.proofs.Filling.{head-within, rest-is, fill-within, fill-next}
+use Rattle.ebus.specs.Escape.{esc, syn, expanded}
+use Rattle.ebus.proofs.Escaped.{expanded-plain, expanded-special}
 
 -- the output starts with the first n raw bytes, and the others are those of the logical bytes from i on
 pub record Filled (logical old out : List ℕ) (n i : ℕ) : Type 0 where

@@ -1,12 +1,10 @@
 -- Laws of eBUS that belong to no one function.
-pub mod Half
+pub mod Escaped
+pub mod CheckByte
+pub mod BitByBit
+pub mod EscapeByAddition
 pub mod Expand
 pub mod Undo
 pub mod EscapeRoundTrip
-pub mod Collect
-pub mod Gather
-pub mod Head
-pub mod Wire
-pub mod Longer
-pub mod WireLength
+pub mod LongerRun
 pub mod Worked

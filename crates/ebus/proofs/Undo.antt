@@ -1,25 +1,24 @@
 -- Laws of reading logical bytes one after another.
 -- Assumes nothing.
-use mathlib.Core.Path.{_≡_, refl, sym, ap, ap₂, _∙_, subst}
-use mathlib.Core.Bool.{Bool, true, false}
+use mathlib.Core.Path.{_≡_, refl, sym, ap, _∙_, subst}
 use mathlib.Core.List.{List, [], _∷_, _++_}
 use Prim.Native.Nat.{ℕ, zero, suc, _+_, _-_, _≤_, _<_}
 use native.Mathlib.Omega.{arith}
 use lib.Dec.{eqb, ltb}
 use lib.ListN.{length, getD, take, drop, set}
 use borrow.Author.Tests.{lt-ltb, le-ltb, ltb-true, eqb-true, eqb-false}
-use Rattle.refusal.specs.Choice.{pick}
-use Rattle.refusal.specs.Output.{Output, bytes, refused, content, answer, starting}
+use Rattle.lists.specs.Starting.{starting}
+use Rattle.refusal.specs.Output.{Output, bytes, refused, content, written}
 use Rattle.refusal.specs.declared.Refusal.{Refusal}
 use Rattle.refusal.specs.declared.Written.{Written}
 use Rattle.refusal.specs.declared.Written.the-variants.{Length, Refused as NotWritten}
-use Rattle.refusal.proofs.Cases.{pick-cases}
-use Rattle.refusal.proofs.Lists.{drop-next, head-within, rest-is, fill-within, fill-next}
-use Rattle.crc.specs.Escape.{esc, syn, escaped}
-use Rattle.crc.proofs.Escape.{escaped-plain}
+use Rattle.lists.proofs.Cases.{pick-cases}
+use Rattle.lists.proofs.Filling.{drop-next, head-within, rest-is, fill-within, fill-next}
+use Rattle.ebus.specs.Escape.{esc, syn, escaped}
+use Rattle.ebus.proofs.Escaped.{escaped-plain}
 use Rattle.ebus.specs.declared.escape.Logical.{Logical}
 use Rattle.ebus.specs.declared.escape.Logical.the-variants.{Byte, Refused}
-use Rattle.ebus.specs.Logical.{endedAt, escapeAt, logicalAt}
+use Rattle.ebus.specs.Logical.{escapeAt, logicalAt}
 use Rattle.ebus.specs.Undo.{before, withRest, undoneFrom, undone}
 
 -- ---- what a logical byte says of the raw bytes: it takes at least one, none behind the end, and stands there escaped
@@ -95,13 +94,13 @@ module _ (raw : List ℕ) (n at : ℕ) where
     pub turn-refused : (why : Refusal) → logicalAt raw at ≡ Refused why → undoneFrom raw (length raw - n) at ≡ refused why
     turn-refused why e = turn ∙ ap (λ (l : Logical). withRest l (undoneFrom raw (length raw - (n + 1)))) e
 
--- ---- the answer, with n bytes counted already
+-- ---- the written, with n bytes counted already
 
 abbrev pub counted : ℕ → Output → Written
 counted n (bytes bs) = Length (n + length bs)
 counted n (refused why) = NotWritten why
 
-pub counted-none : (o : Output) → counted 0 o ≡ answer o
+pub counted-none : (o : Output) → counted 0 o ≡ written o
 counted-none (bytes bs) = ap Length (omega arith)
 counted-none (refused why) = refl
 

@@ -1,13 +1,32 @@
--- Document 01, "Examples on each side of the edge": the W rows of eBUS, of the definitions; and the number of initiator addresses.
+-- The W rows of eBUS in docs/RULES.md, of the definitions; and the number of initiator addresses.
 -- Assumes nothing.
 use mathlib.Core.Path.{_≡_, refl}
-use mathlib.Core.Bool.{Bool, true}
 use mathlib.Core.List.{[], _∷_}
-use Prim.Native.Nat.{ℕ, zero, suc, _+_}
-use Rattle.refusal.specs.Choice.{pick}
-use Rattle.crc.specs.Escape.{escaped, expanded}
+use Rattle.crc.specs.Register.{step, enter, bits}
+use Rattle.ebus.specs.Check.{ebusBytes, ebusCheck}
+use Rattle.ebus.specs.Escape.{escaped, expanded}
 use Rattle.ebus.specs.declared.address.ExchangeKind.the-variants.{Broadcast, InitiatorInitiator, InitiatorTarget}
-use Rattle.ebus.specs.Address.{initiatorNibble, initiator, kindOf}
+use Rattle.ebus.specs.Address.{initiatorNibble, initiator, Initiators, kindOf}
+
+-- W1 check byte of 10 08 B5 11 01 01 is 89
+pub w1 : ebusCheck (0x10 ∷ 0x08 ∷ 0xB5 ∷ 0x11 ∷ 0x01 ∷ 0x01 ∷ []) ≡ 0x89
+unfolding ebusCheck ebusBytes enter step bits escaped expanded
+w1 = refl
+
+-- W2 of AA it is EC
+pub w2 : ebusCheck (0xAA ∷ []) ≡ 0xEC
+unfolding ebusCheck ebusBytes enter step bits escaped expanded
+w2 = refl
+
+-- W3 of A9 it is ED
+pub w3 : ebusCheck (0xA9 ∷ []) ≡ 0xED
+unfolding ebusCheck ebusBytes enter step bits escaped expanded
+w3 = refl
+
+-- W4 of nothing it is 00
+pub w4 : ebusCheck [] ≡ 0x00
+unfolding ebusCheck ebusBytes expanded
+w4 = refl
 
 -- W5 A9 AA goes out as A9 00 A9 01
 pub w5 : expanded (0xA9 ∷ 0xAA ∷ []) ≡ 0xA9 ∷ 0x00 ∷ 0xA9 ∷ 0x01 ∷ []
@@ -19,12 +38,7 @@ pub w6 : (kindOf 0xFE ≡ Broadcast) × (kindOf 0x10 ≡ InitiatorInitiator) × 
 unfolding kindOf initiator initiatorNibble
 w6 = (refl, refl, refl)
 
--- how many of the numbers below n pass a test
-abbrev pub passing : (ℕ → Bool) → ℕ → ℕ
-passing test zero = 0
-passing test (suc n) = pick (test n) 1 0 + passing test n
-
--- "25 addresses, FF included"
-pub initiators : (passing initiator 256 ≡ 25) × (initiator 0xFF ≡ true)
+-- rule E6's count
+pub initiators : Initiators
 unfolding initiator initiatorNibble
 initiators = (refl, refl)

@@ -1,24 +1,44 @@
--- Addresses. Document 01, "eBUS telegrams and exchanges".
+-- Addresses: rules E6, E7 and E8.
 -- Assumes nothing.
-use Prim.Native.Nat.{ℕ, _/_, _%_}
-use mathlib.Core.Bool.{Bool, true, false}
+use mathlib.Core.Path.{_≡_}
+use Prim.Native.Nat.{ℕ, zero, suc, _+_, _/_, _%_}
+use mathlib.Core.Bool.{Bool, true, _&&_, _||_}
 use lib.Dec.{eqb}
-use Rattle.refusal.specs.Choice.{pick}
-use Rattle.crc.specs.Escape.{esc, syn}
+use Rattle.lists.specs.Choice.{pick}
+use Rattle.ebus.specs.Escape.{esc, syn}
 use Rattle.ebus.specs.declared.address.ExchangeKind.{ExchangeKind}
 use Rattle.ebus.specs.declared.address.ExchangeKind.the-variants.{Broadcast, InitiatorInitiator, InitiatorTarget}
 
--- "both nibbles among 0, 1, 3, 7, F"
+-- rule E6: of an initiator address, both nibbles are of these five
 unfoldable pub initiatorNibble : ℕ → Bool
-initiatorNibble n = pick (eqb n 0x0) true (pick (eqb n 0x1) true (pick (eqb n 0x3) true (pick (eqb n 0x7) true (pick (eqb n 0xF) true false))))
+initiatorNibble n = eqb n 0x0 || (eqb n 0x1 || (eqb n 0x3 || (eqb n 0x7 || eqb n 0xF)))
 
 unfoldable pub initiator : ℕ → Bool
-initiator address = pick (initiatorNibble (address / 16)) (initiatorNibble (address % 16)) false
+initiator address = initiatorNibble (address / 16) && initiatorNibble (address % 16)
 
--- "DST must not be A9 or AA"
+-- how many numbers below n pass a test
+abbrev pub howManyBelow : ℕ → (ℕ → Bool) → ℕ
+howManyBelow zero test = 0
+howManyBelow (suc n) test = pick (test n) 1 0 + howManyBelow n test
+
+-- rule E6: 25 bytes are initiator addresses, and FF is one of them
+abbrev pub Initiators : Type 0
+Initiators = (howManyBelow 256 initiator ≡ 25) × (initiator 0xFF ≡ true)
+
+-- rule E7: no destination
 unfoldable pub reserved : ℕ → Bool
-reserved address = pick (eqb address esc) true (eqb address syn)
+reserved address = eqb address esc || eqb address syn
 
--- "DST FE is a broadcast; an initiator address is initiator/initiator; all else is initiator/target"
+-- the destination of a broadcast
+abbrev pub everyone : ℕ
+everyone = 0xFE
+
+-- rule E8: the destination decides the kind
 unfoldable pub kindOf : ℕ → ExchangeKind
-kindOf destination = pick (eqb destination 0xFE) Broadcast (pick (initiator destination) InitiatorInitiator InitiatorTarget)
+kindOf destination = pick (eqb destination everyone) Broadcast (pick (initiator destination) InitiatorInitiator InitiatorTarget)
+
+-- the kinds as numbers; 0 is no kind
+abbrev pub kindNumber : ExchangeKind → ℕ
+kindNumber Broadcast = 1
+kindNumber InitiatorInitiator = 2
+kindNumber InitiatorTarget = 3

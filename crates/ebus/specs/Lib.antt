@@ -1,6 +1,7 @@
--- What document 01 says of eBUS, in its order.
+-- eBUS below telegrams, rules E1 to E8 in their order.
+pub mod Escape
+pub mod Check
+pub mod BitByBit
 pub mod Logical
 pub mod Undo
 pub mod Address
-pub mod Telegram
-pub mod View

@@ -1,10 +1,10 @@
--- Undoing the escapes of a whole input: "undoing it gives 3, 4 or 5 as met, at their places".
+-- Rule E5: undoing the escapes of a whole input, or the first 3, 4 or 5 in it.
 -- Assumes nothing.
 use Prim.Native.Nat.{ℕ, zero, suc}
 use mathlib.Core.List.{List, [], _∷_}
 use lib.Dec.{ltb}
 use lib.ListN.{length}
-use Rattle.refusal.specs.Choice.{pick}
+use Rattle.lists.specs.Choice.{pick}
 use Rattle.refusal.specs.Output.{Output, bytes, refused}
 use Rattle.ebus.specs.declared.escape.Logical.{Logical}
 use Rattle.ebus.specs.declared.escape.Logical.the-variants.{Byte, Refused}

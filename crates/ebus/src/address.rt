@@ -1,6 +1,11 @@
 // Addresses: which are initiators', and what kind of exchange a destination asks for.
+use crate::escape::ESC;
+use crate::escape::SYN;
 ghost use mathlib.Core.Path.{_≡_};
 ghost use Rattle.ebus.specs.Address.{initiatorNibble, initiator, reserved, kindOf};
+
+// The destination of a broadcast.
+const EVERYONE: u8 = 0xFE;
 
 // The kind of an exchange, which its destination decides.
 pub enum ExchangeKind {
@@ -45,17 +50,17 @@ pub fn is_initiator(address: u8) -> bool
 pub fn is_reserved(address: u8) -> bool
     ensures { λ r. ⌜ r ≡ reserved address ⌝ }
 {
-    if address == 0xA9 {
+    if address == ESC {
         return true;
     }
-    address == 0xAA
+    address == SYN
 }
 
 // The kind of an exchange with this destination.
 pub fn kind(destination: u8) -> ExchangeKind
     ensures { λ r. ⌜ r ≡ kindOf destination ⌝ }
 {
-    if destination == 0xFE {
+    if destination == EVERYONE {
         return ExchangeKind::Broadcast;
     }
     if is_initiator(destination) {

@@ -1,6 +1,6 @@
 // Escapes on the wire: A9 goes out as A9 00 and AA as A9 01; a raw AA is always SYN.
 //
-// Document 01, "eBUS check byte and escapes". `logical_at` is the one reader that knows escapes;
+// Rules E3 to E5. `logical_at` is the one reader that knows escapes;
 // what is above it reads logical bytes.
 use refusal::ESCAPE_WRONG;
 use refusal::OUTPUT_SHORT;
@@ -9,17 +9,20 @@ use refusal::Refusal;
 use refusal::SYN_EARLY;
 use refusal::Written;
 ghost use mathlib.Core.Path.{_≡_};
+ghost use mathlib.Mathlib.Logic.Function.Defs.{id};
 ghost use Prim.Native.Nat.{_+_, _≤_};
 ghost use lib.ListN.{length};
-ghost use Rattle.crc.specs.Escape.{expanded};
+ghost use Rattle.ebus.specs.Escape.{expanded};
 ghost use Rattle.refusal.specs.Number.{outputShort, at-place};
-ghost use Rattle.refusal.specs.Output.{bytes, content, fitting, answer, starting, Wrote};
+ghost use Rattle.lists.specs.Starting.{starting};
+ghost use Rattle.refusal.specs.Output.{bytes, content, fitting, Wrote, written};
 ghost use Rattle.ebus.specs.Logical.{escapeAt, logicalAt};
 ghost use Rattle.ebus.specs.Undo.{undone};
 
-const ESC: u8 = 0xA9;
+// The byte that begins an escape, and SYN, which is never escaped.
+pub const ESC: u8 = 0xA9;
 
-const SYN: u8 = 0xAA;
+pub const SYN: u8 = 0xAA;
 
 // A logical byte with the position behind it, or why there is none.
 pub enum Logical {
@@ -52,8 +55,7 @@ fn escape_at(run: &[u8], second: usize) -> Logical
     no_byte(ESCAPE_WRONG, second)
 }
 
-// The logical byte at a position of the run. A refusal has document 01's number and place: 3, 4 or
-// 5 as met.
+// The logical byte at a position of the run, or 3, 4 or 5 as met (rule E4).
 pub fn logical_at(run: &[u8], at: usize) -> Logical
     ensures { λ r. ⌜ r ≡ logicalAt (now (run .entry)) at ⌝ }
 {
@@ -80,7 +82,7 @@ fn too_short() -> Written
 
 // How many logical bytes the raw input has, or the first refusal that is met in it.
 fn undone_length(raw: &[u8]) -> Written
-    ensures { λ r. ⌜ r ≡ answer (undone (now (raw .entry))) ⌝ }
+    ensures { λ r. ⌜ r ≡ written (undone (now (raw .entry))) ⌝ }
 {
     let mut at = 0;
     let mut n = 0;
@@ -121,7 +123,7 @@ fn undo_into(raw: &[u8], out: &mut [u8])
 // exact length. The output starts with the logical bytes and keeps the rest; on a refusal it is as
 // it was.
 pub fn undo(raw: &[u8], out: &mut [u8]) -> Written
-    ensures { λ r. ⌜ Wrote (fitting (length (now (out .entry))) (undone (now (raw .entry)))) r (now (out .entry)) (now (out .exit)) ⌝ }
+    ensures { λ r. ⌜ Wrote id (fitting (length (now (out .entry))) (undone (now (raw .entry)))) r (now (out .entry)) (now (out .exit)) ⌝ }
 {
     let counted = undone_length(raw);
     let Written::Length(n) = counted else {
@@ -182,7 +184,7 @@ fn expand_into(logical: &[u8], out: &mut [u8])
 // Writes the logical bytes as they go on the wire. Refuses only with 1, by exact length. The output
 // starts with the raw bytes and keeps the rest; on a refusal it is as it was.
 pub fn expand(logical: &[u8], out: &mut [u8]) -> Written
-    ensures { λ r. ⌜ Wrote (fitting (length (now (out .entry))) (bytes (expanded (now (logical .entry))))) r (now (out .entry)) (now (out .exit)) ⌝ }
+    ensures { λ r. ⌜ Wrote id (fitting (length (now (out .entry))) (bytes (expanded (now (logical .entry))))) r (now (out .entry)) (now (out .exit)) ⌝ }
 {
     let length = expanded_length(logical);
     if out.len() < length {

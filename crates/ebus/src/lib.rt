@@ -1,5 +1,5 @@
-// eBUS as document 01 has it: escapes on the wire, addresses, and telegrams read and written.
+// eBUS below telegrams: escapes on the wire, the check byte, and addresses.
 pub mod address;
+pub mod check;
 pub mod escape;
-pub mod telegram;
-pub mod write;
+mod table;

@@ -1,13 +1,11 @@
--- Laws of judging that belong to no one function.
-pub mod HeadRead
-pub mod Held
-pub mod Places
-pub mod Verdict
+-- Laws of telegrams and judging that belong to no one function.
+pub mod CollectTurn
+pub mod CollectedOnWire
+pub mod HeadJudged
+pub mod TelegramOnWire
+pub mod WholeAttempts
+pub mod InBuffer
+pub mod OutcomeBySyn
 pub mod Data
-pub mod Rooms
-pub mod Forms
-pub mod Sound
-pub mod RuleBook
-pub mod WrittenRead
-pub mod Longer
+pub mod Buffers
 pub mod Worked

@@ -6,18 +6,18 @@ use Prim.Native.Nat.{ℕ, _≤_}
 use native.Mathlib.Omega.{arith}
 use lib.Dec.{lit≤}
 use Rattle.refusal.specs.Number.{busError, at-place}
-use Rattle.refusal.specs.Output.{starting}
+use Rattle.lists.specs.Starting.{starting}
 use Rattle.crc.specs.Register.{step, enter, bits}
-use Rattle.crc.specs.Check.{ebusBytes, ebusCheck}
-use Rattle.crc.specs.Escape.{escaped, expanded}
+use Rattle.ebus.specs.Check.{ebusBytes, ebusCheck}
+use Rattle.ebus.specs.Escape.{escaped, expanded}
 use Rattle.ebus.specs.declared.address.ExchangeKind.the-variants.{InitiatorTarget}
 use Rattle.ebus.specs.Address.{initiatorNibble, initiator, reserved, kindOf}
 use Rattle.ebus.specs.Logical.{escapeAt, logicalAt}
-use Rattle.ebus.specs.Telegram.{checkRight, headFault, faultOf, collected, telegramAt}
-use Rattle.exchange.specs.Exchange.{accepted, rejected, answerAt, settled, unanswered, attemptAt, triesAt, synAt, exchangeAt, judged}
+use Rattle.exchange.specs.Telegram.{commandRoom, replyRoom, checkRight, fieldAt, faultOf, collected, telegramAt}
+use Rattle.exchange.specs.Exchange.{accepted, rejected, acknowledgeAt, settled, unanswered, attemptAt, triesAt, synAt, exchangeAt, exchange, judged}
 use Rattle.exchange.specs.Data.{replyData}
-use Rattle.exchange.proofs.Data.{data-whole}
-use Rattle.exchange.proofs.Rooms.{room-enough}
+use Rattle.exchange.proofs.Data.{first-whole}
+use Rattle.exchange.proofs.Buffers.{room-enough}
 
 abbrev pub command : List ℕ
 command = 0x10 ∷ 0x08 ∷ 0xB5 ∷ 0x11 ∷ 0x01 ∷ 0x01 ∷ 0x89 ∷ []
@@ -30,24 +30,23 @@ abbrev pub answeredBy : ℕ → List ℕ
 answeredBy b = 0x10 ∷ 0x08 ∷ 0xB5 ∷ 0x11 ∷ 0x01 ∷ 0x01 ∷ 0x89 ∷ b ∷ 0x01 ∷ 0x2A ∷ 0xB1 ∷ 0x00 ∷ 0xAA ∷ []
 
 -- W7 10 08 B5 11 01 01 89 00 01 2A B1 00 AA: accepted, data 2A, one attempt each, 13 bytes read
-pub w7 : exchangeAt (answeredBy 0x00) 0 ≡ accepted InitiatorTarget 1 1 13 command reply []
-unfolding ebusCheck ebusBytes enter step bits escaped expanded initiatorNibble initiator reserved kindOf escapeAt logicalAt checkRight headFault faultOf collected telegramAt answerAt settled unanswered attemptAt triesAt synAt exchangeAt
+pub w7 : exchange (answeredBy 0x00) ≡ accepted InitiatorTarget 1 1 13 command reply []
+unfolding ebusCheck ebusBytes enter step bits escaped expanded initiatorNibble initiator reserved kindOf escapeAt logicalAt checkRight fieldAt faultOf collected telegramAt acknowledgeAt settled unanswered attemptAt triesAt synAt exchangeAt
 w7 = refl
 
 -- the data of the reply buffer that then starts with the reply, whatever it and the other buffer held
 pub w7-data : (first second : List ℕ) → replyData (starting reply first) second 1 ≡ 0x2A ∷ []
-unfolding replyData
-w7-data first second = data-whole (starting reply first) (omega arith) (lit≤ tt) (omega arith)
+w7-data first second = first-whole (starting reply first) second (omega arith) (lit≤ tt) (omega arith)
 
 -- W8 the same with 55 for the first 00: number 12 at place 7
-pub w8 : exchangeAt (answeredBy 0x55) 0 ≡ rejected (at-place busError 7)
-unfolding ebusCheck ebusBytes enter step bits escaped expanded initiatorNibble initiator reserved kindOf escapeAt logicalAt checkRight headFault faultOf collected telegramAt answerAt settled unanswered attemptAt triesAt synAt exchangeAt
+pub w8 : exchange (answeredBy 0x55) ≡ rejected (at-place busError 7)
+unfolding ebusCheck ebusBytes enter step bits escaped expanded initiatorNibble initiator reserved kindOf escapeAt logicalAt checkRight fieldAt faultOf collected telegramAt acknowledgeAt settled unanswered attemptAt triesAt synAt exchangeAt
 w8 = refl
 
 -- so judged, where the buffers are long enough
-module _ (c f s : ℕ) (command-room : 22 ≤ c) (first-room : 18 ≤ f) (second-room : 18 ≤ s) where
+module _ (c f s : ℕ) (command-room : commandRoom ≤ c) (first-room : replyRoom ≤ f) (second-room : replyRoom ≤ s) where
   pub w7-judged : judged (answeredBy 0x00) c f s ≡ accepted InitiatorTarget 1 1 13 command reply []
-  w7-judged = room-enough (answeredBy 0x00) c f s command-room first-room second-room ∙ w7
+  w7-judged = room-enough c f s (answeredBy 0x00) command-room first-room second-room ∙ w7
 
   pub w8-judged : judged (answeredBy 0x55) c f s ≡ rejected (at-place busError 7)
-  w8-judged = room-enough (answeredBy 0x55) c f s command-room first-room second-room ∙ w8
+  w8-judged = room-enough c f s (answeredBy 0x55) command-room first-room second-room ∙ w8

@@ -1,44 +1,38 @@
--- Judging a run: document 01, "eBUS telegrams and exchanges", steps 1 to 4. Every position is absolute, so places are
--- positions and the bytes read are the last position. What did not happen, and every refusal, has no bytes.
+-- Judging a run, rules E12 to E16. Every position is absolute, so places are positions and the bytes read are the last
+-- position. What did not happen, and every refusal, has no bytes.
 -- Assumes nothing.
 use Prim.Native.Nat.{ℕ, _+_}
-use mathlib.Core.Bool.{Bool, true, false}
+use mathlib.Core.Bool.{Bool, true, false, _&&_}
 use mathlib.Core.List.{List, []}
 use lib.Dec.{eqb, ltb, leb}
 use lib.ListN.{length, getD}
-use Rattle.refusal.specs.Choice.{pick}
-use Rattle.refusal.specs.Number.{outputShort, runEnded, synEarly, checkWrong, commandNacked, replyNacked, busError, at-place}
+use Rattle.lists.specs.Choice.{pick}
+use Rattle.refusal.specs.Number.{outputShort, synEarly, checkWrong, commandNacked, replyNacked, busError, at-place}
 use Rattle.refusal.specs.declared.Refusal.{Refusal}
-use Rattle.crc.specs.Escape.{syn}
+use Rattle.ebus.specs.Escape.{syn}
 use Rattle.ebus.specs.declared.address.ExchangeKind.{ExchangeKind}
 use Rattle.ebus.specs.declared.address.ExchangeKind.the-variants.{Broadcast, InitiatorInitiator, InitiatorTarget}
 use Rattle.ebus.specs.Address.{kindOf}
-use Rattle.ebus.specs.Telegram.{Telegram, read, unread, headOf, checkRight, telegramAt}
+use Rattle.ebus.specs.Logical.{runOver}
+use Rattle.exchange.specs.Telegram.{commandRoom, replyRoom, destinationOf, checkRight, Telegram, read, unread, telegramAt}
 
--- the two acknowledge bytes, and the destination of a broadcast
+-- the two acknowledge bytes
 abbrev pub ack : ℕ
 ack = 0x00
 
 abbrev pub nack : ℕ
 nack = 0xFF
 
-abbrev pub everyone : ℕ
-everyone = 0xFE
+-- ---- the acknowledge byte of a command, and that of a reply, rule E13
 
--- number 3, "run ends before SYN was due and read": at the run's length
-abbrev pub runOver : List ℕ → Refusal
-runOver run = at-place runEnded (length run)
+-- 00 with the position behind it, FF with its place, or why it is neither: any byte but 00, FF and AA is number 12
+pub data Acknowledge : Type 0 where
+  positive : ℕ → Acknowledge
+  negative : ℕ → Acknowledge
+  invalid : Refusal → Acknowledge
 
--- ---- step 2, "One acknowledge byte", and the byte from the initiator of step 3
-
--- 00 with the position behind it, FF with its place, or why it is neither: "acknowledge byte none of 00, FF, AA" is number 12
-pub data Answer : Type 0 where
-  positive : ℕ → Answer
-  negative : ℕ → Answer
-  invalid : Refusal → Answer
-
-unfoldable pub answerAt : List ℕ → ℕ → Answer
-answerAt run at =
+unfoldable pub acknowledgeAt : List ℕ → ℕ → Acknowledge
+acknowledgeAt run at =
     pick (ltb at (length run))
     (pick (eqb (getD run at 0) ack) (positive (at + 1))
     (pick (eqb (getD run at 0) nack) (negative at)
@@ -53,27 +47,32 @@ pub data Attempt : Type 0 where
   nacked : List ℕ → ℕ → Attempt
   failed : Refusal → Attempt
 
--- "A wrong check byte is judged when the attempt is acknowledged by 00, or at once for a broadcast": number 9 at the check byte
+-- rule E15: the check byte is judged once the attempt is accepted; a wrong one is number 9, at the check byte
 unfoldable pub settled : List ℕ → ℕ → ℕ → Attempt
-settled telegram check next = pick (checkRight telegram) (taken telegram next) (failed (at-place checkWrong check))
+settled telegram checkPlace next = pick (checkRight telegram) (taken telegram next) (failed (at-place checkWrong checkPlace))
 
--- "Followed by FF it is only a reason to repeat. A right attempt may be NACKed too."
-abbrev pub onAnswer : List ℕ → ℕ → Answer → Attempt
-onAnswer telegram check (positive next) = settled telegram check next
-onAnswer telegram check (negative place) = nacked telegram place
-onAnswer telegram check (invalid why) = failed why
+-- before an FF it does not matter, and a right attempt may be NACKed too
+abbrev pub onAcknowledge : List ℕ → ℕ → Acknowledge → Attempt
+onAcknowledge telegram checkPlace (positive next) = settled telegram checkPlace next
+onAcknowledge telegram checkPlace (negative place) = nacked telegram place
+onAcknowledge telegram checkPlace (invalid why) = failed why
 
 -- a broadcast command is not acknowledged
+abbrev pub toAll : ExchangeKind → Bool
+toAll Broadcast = true
+toAll InitiatorInitiator = false
+toAll InitiatorTarget = false
+
 unfoldable pub unanswered : Bool → List ℕ → Bool
-unanswered command telegram = pick command (eqb (getD telegram 1 0) everyone) false
+unanswered command telegram = command && toAll (kindOf (destinationOf telegram))
 
 abbrev pub onTelegram : Bool → List ℕ → Telegram → Attempt
-onTelegram command run (read telegram check next) =
-    pick (unanswered command telegram) (settled telegram check next) (onAnswer telegram check (answerAt run next))
+onTelegram command run (read telegram checkPlace next) =
+    pick (unanswered command telegram) (settled telegram checkPlace next) (onAcknowledge telegram checkPlace (acknowledgeAt run next))
 onTelegram command run (unread why) = failed why
 
 unfoldable pub attemptAt : Bool → List ℕ → ℕ → Attempt
-attemptAt command run at = onTelegram command run (telegramAt (headOf command) run at)
+attemptAt command run at = onTelegram command run (telegramAt command run at)
 
 -- ---- one attempt or two
 
@@ -83,7 +82,7 @@ pub data Tries : Type 0 where
   twice : List ℕ → List ℕ → ℕ → Tries
   neither : Refusal → Tries
 
--- "a second FF ends the exchange": 10 for a command, 11 for a reply, at that FF
+-- rule E14: a second FF is 10 for a command and 11 for a reply, at that FF
 abbrev pub nackedTwice : Bool → ℕ
 nackedTwice command = pick command commandNacked replyNacked
 
@@ -92,7 +91,7 @@ onSecond command first (taken telegram next) = twice first telegram next
 onSecond command first (nacked telegram place) = neither (at-place (nackedTwice command) place)
 onSecond command first (failed why) = neither why
 
--- "FF: the command is read once more, standing for itself with its own kind"; "FF: the reply is read once more"
+-- rule E14: behind an FF the second attempt is read, and stands for itself
 abbrev pub onFirst : Bool → List ℕ → Attempt → Tries
 onFirst command run (taken telegram next) = once telegram next
 onFirst command run (nacked telegram place) = onSecond command telegram (attemptAt command run (place + 1))
@@ -101,7 +100,7 @@ onFirst command run (failed why) = neither why
 unfoldable pub triesAt : Bool → List ℕ → ℕ → Tries
 triesAt command run at = onFirst command run (attemptAt command run at)
 
--- ---- step 4, "SYN. Bytes after it are not looked at."
+-- ---- SYN, which ends the exchange: nothing behind it is looked at
 
 pub data End : Type 0 where
   ended : ℕ → End
@@ -113,8 +112,8 @@ synAt run at =
 
 -- ---- the exchange
 
--- "Success gives the kind, the attempts at command and reply, and the raw bytes read, SYN included", then what the
--- command buffer and the two reply buffers start with
+-- rule E16: the kind, the attempts at command and reply, the raw bytes read, and what the command buffer and the two reply
+-- buffers start with
 pub data Outcome : Type 0 where
   accepted : ExchangeKind → ℕ → ℕ → ℕ → List ℕ → List ℕ → List ℕ → Outcome
   rejected : Refusal → Outcome
@@ -128,23 +127,30 @@ onReply commands command run (once reply next) = onEnd InitiatorTarget commands 
 onReply commands command run (twice first second next) = onEnd InitiatorTarget commands 2 command first second (synAt run next)
 onReply commands command run (neither why) = rejected why
 
--- "For a broadcast, go to step 4"; step 3 is for "Initiator/target only"
+-- rule E12: only initiator/target has a reply
 abbrev pub onKind : ℕ → List ℕ → List ℕ → ℕ → ExchangeKind → Outcome
 onKind commands command run next Broadcast = onEnd Broadcast commands 0 command [] [] (synAt run next)
 onKind commands command run next InitiatorInitiator = onEnd InitiatorInitiator commands 0 command [] [] (synAt run next)
 onKind commands command run next InitiatorTarget = onReply commands command run (triesAt false run next)
 
--- the accepted attempt "stand[s] for itself with its own kind"; DST is a command's second byte
+-- the accepted attempt has its own kind
 abbrev pub onCommand : List ℕ → Tries → Outcome
-onCommand run (once command next) = onKind 1 command run next (kindOf (getD command 1 0))
-onCommand run (twice first command next) = onKind 2 command run next (kindOf (getD command 1 0))
+onCommand run (once command next) = onKind 1 command run next (kindOf (destinationOf command))
+onCommand run (twice first command next) = onKind 2 command run next (kindOf (destinationOf command))
 onCommand run (neither why) = rejected why
 
+-- the exchange whose command starts at a position
 unfoldable pub exchangeAt : List ℕ → ℕ → Outcome
 exchangeAt run at = onCommand run (triesAt true run at)
 
--- "The command buffer (at least 22 bytes) .. Two reply buffers (at least 18 bytes each)": number 1 before the first byte is looked at
+-- judging starts at the start of the run
+abbrev pub exchange : List ℕ → Outcome
+exchange run = exchangeAt run 0
+
+-- rule E16: whether buffers of these lengths are enough
+unfoldable pub rooms : ℕ → ℕ → ℕ → Bool
+rooms command first second = leb commandRoom command && (leb replyRoom first && leb replyRoom second)
+
+-- number 1 before the first byte is looked at, and then the exchange
 unfoldable pub judged : List ℕ → ℕ → ℕ → ℕ → Outcome
-judged run command first second =
-    pick (leb 22 command) (pick (leb 18 first) (pick (leb 18 second) (exchangeAt run 0) (rejected (at-place outputShort 0))) (rejected (at-place outputShort 0)))
-    (rejected (at-place outputShort 0))
+judged run command first second = pick (rooms command first second) (exchange run) (rejected (at-place outputShort 0))

@@ -1,5 +1,6 @@
--- The judging of a recorded exchange, in document 01's order.
+-- Telegrams and the judging of a recorded exchange, in the order of the rules.
+pub mod Telegram
 pub mod Exchange
-pub mod View
 pub mod Data
-pub mod Rules
+pub mod View
+pub mod Inner

@@ -1,10 +1,13 @@
 // One attempt at a command or a reply with its acknowledge byte, and one attempt or two.
 //
 // A refusal is returned as soon as it is met. What is read goes into arrays of the judge's own.
+use crate::telegram::Reading;
+use crate::telegram::check_right;
 use crate::telegram::read_telegram;
-use ebus::telegram::Reading;
-use ebus::telegram::check_right;
-use ebus::telegram::why_unread;
+use crate::telegram::why_unread;
+use ebus::address::ExchangeKind;
+use ebus::address::kind;
+use ebus::escape::SYN;
 use refusal::BUS_ERROR;
 use refusal::CHECK_WRONG;
 use refusal::COMMAND_NACKED;
@@ -15,55 +18,51 @@ use refusal::SYN_EARLY;
 ghost use mathlib.Core.Path.{_≡_};
 ghost use Prim.Native.Nat.{ℕ, _+_, _≤_};
 ghost use lib.ListN.{length, take};
-ghost use mathlib.Core.Bool.{false};
+ghost use mathlib.Core.Bool.{_&&_};
 ghost use mathlib.Core.List.{List};
-ghost use lib.Dec.{eqb};
-ghost use Rattle.refusal.specs.Choice.{pick};
 ghost use Rattle.refusal.specs.Number.{at-place};
-ghost use Rattle.ebus.specs.Telegram.{headOf};
-ghost use Rattle.exchange.specs.Exchange.{everyone, answerAt, settled, onAnswer, attemptAt, nackedTwice, onSecond, triesAt};
+ghost use Rattle.ebus.specs.Address.{kindOf};
+ghost use Rattle.exchange.specs.Telegram.{commandRoom, roomOf};
+ghost use Rattle.exchange.specs.Exchange.{acknowledgeAt, settled, onAcknowledge, toAll, attemptAt, nackedTwice, onSecond, triesAt};
 ghost use Rattle.exchange.specs.declared.attempt.Standing.the-variants.{Failed};
 ghost use Rattle.exchange.specs.declared.attempt.Tried.the-variants.{Neither};
-ghost use Rattle.exchange.specs.View.{answerOf, attemptOf, triesOf};
+ghost use Rattle.exchange.specs.Inner.{acknowledgeOf, attemptOf, triesOf};
 
+// The two acknowledge bytes.
 const ACK: u8 = 0x00;
 
 const NACK: u8 = 0xFF;
 
-const SYN: u8 = 0xAA;
-
-const EVERYONE: u8 = 0xFE;
-
 // An acknowledge byte: 00 with the position behind it, FF with its place, or why it is neither.
-pub enum Answer {
+pub(crate) enum Acknowledge {
     Positive(usize),
     Negative(usize),
     Invalid(Refusal),
 }
 
 // How an attempt ended.
-pub enum Standing {
+pub(crate) enum Standing {
     Taken,
     Nacked,
     Failed(Refusal),
 }
 
 // An attempt: how many bytes it has, and the position behind it, or the place of the FF.
-pub struct Attempt {
+pub(crate) struct Attempt {
     pub len: usize,
     pub next: usize,
     pub standing: Standing,
 }
 
 // How many attempts there were, or the refusal.
-pub enum Tried {
+pub(crate) enum Tried {
     Once,
     Twice,
     Neither(Refusal),
 }
 
 // One attempt or two: how many bytes they have, and the position behind the last.
-pub struct Tries {
+pub(crate) struct Tries {
     pub len1: usize,
     pub len2: usize,
     pub next: usize,
@@ -71,26 +70,26 @@ pub struct Tries {
 }
 
 // No acknowledge byte, for this reason.
-fn invalid_for(number: u8, place: usize) -> Answer
-    ensures { λ r. ⌜ r ≡ Answer.Invalid (at-place number place) ⌝ }
+fn invalid_for(number: u8, place: usize) -> Acknowledge
+    ensures { λ r. ⌜ r ≡ Acknowledge.Invalid (at-place number place) ⌝ }
 {
-    Answer::Invalid(Refusal { number, place })
+    Acknowledge::Invalid(Refusal { number, place })
 }
 
 // The acknowledge byte at a position: one raw byte, with no escape rule. 00 goes on, only
 // FF is a NACK, SYN ends the wait, and any other byte is a bus error.
-pub(crate) fn answer_at(run: &[u8], at: usize) -> Answer
-    ensures { λ r. ⌜ answerOf r ≡ answerAt (now (run .entry)) at ⌝ }
+pub(crate) fn acknowledge_at(run: &[u8], at: usize) -> Acknowledge
+    ensures { λ r. ⌜ acknowledgeOf r ≡ acknowledgeAt (now (run .entry)) at ⌝ }
 {
     if run.len() <= at {
         return invalid_for(RUN_ENDED, run.len());
     }
     let byte = run[at];
     if byte == ACK {
-        return Answer::Positive(at + 1);
+        return Acknowledge::Positive(at + 1);
     }
     if byte == NACK {
-        return Answer::Negative(at);
+        return Acknowledge::Negative(at);
     }
     if byte == SYN {
         return invalid_for(SYN_EARLY, at);
@@ -109,9 +108,9 @@ fn attempt_failed(why: Refusal) -> Attempt
 }
 
 // An acknowledged attempt, or a broadcast: its check byte is judged now.
-fn settle(bytes: &[u8], len: usize, check: usize, next: usize) -> Attempt
+fn settle(bytes: &[u8], len: usize, check_place: usize, next: usize) -> Attempt
     requires { ⌜ len ≤ length (now bytes) ⌝ }
-    ensures { λ r. ⌜ attemptOf r (now (bytes .entry)) ≡ settled (take len (now (bytes .entry))) check next ⌝ }
+    ensures { λ r. ⌜ attemptOf r (now (bytes .entry)) ≡ settled (take len (now (bytes .entry))) «check_place» next ⌝ }
     ensures { λ r. ⌜ r .len ≤ len ⌝ }
 {
     if check_right(&bytes[..len]) {
@@ -123,43 +122,54 @@ fn settle(bytes: &[u8], len: usize, check: usize, next: usize) -> Attempt
     }
     attempt_failed(Refusal {
         number: CHECK_WRONG,
-        place: check,
+        place: check_place,
     })
 }
 
 // An attempt whose acknowledge byte is due next.
-fn acknowledged(run: &[u8], bytes: &[u8], len: usize, check: usize, at: usize) -> Attempt
+fn acknowledged(run: &[u8], bytes: &[u8], len: usize, check_place: usize, at: usize) -> Attempt
     requires { ⌜ len ≤ length (now bytes) ⌝ }
-    ensures { λ r. ⌜ attemptOf r (now (bytes .entry)) ≡ onAnswer (take len (now (bytes .entry))) check (answerAt (now (run .entry)) at) ⌝ }
+    ensures { λ r. ⌜ attemptOf r (now (bytes .entry)) ≡ onAcknowledge (take len (now (bytes .entry))) «check_place» (acknowledgeAt (now (run .entry)) at) ⌝ }
     ensures { λ r. ⌜ r .len ≤ len ⌝ }
 {
-    let answer = answer_at(run, at);
-    match answer {
-        Answer::Positive(next) => settle(bytes, len, check, next),
-        Answer::Negative(place) => Attempt {
+    let byte = acknowledge_at(run, at);
+    match byte {
+        Acknowledge::Positive(next) => settle(bytes, len, check_place, next),
+        Acknowledge::Negative(place) => Attempt {
             len,
             next: place,
             standing: Standing::Nacked,
         },
-        Answer::Invalid(why) => attempt_failed(why),
+        Acknowledge::Invalid(why) => attempt_failed(why),
     }
 }
 
-// Whether no acknowledge byte follows this telegram: it is a broadcast command.
+// Whether no acknowledge byte follows: this is a broadcast command.
 fn is_unanswered(command: bool, destination: u8) -> bool
-    ensures { λ r. ⌜ r ≡ pick command (eqb destination everyone) false ⌝ }
+    ensures { λ r. ⌜ r ≡ (command && toAll (kindOf destination)) ⌝ }
 {
     if command {
-        return destination == EVERYONE;
+        let k = kind(destination);
+        match k {
+            ExchangeKind::Broadcast => {
+                return true;
+            }
+            ExchangeKind::InitiatorInitiator => {
+                return false;
+            }
+            ExchangeKind::InitiatorTarget => {
+                return false;
+            }
+        }
     }
     false
 }
 
 // An attempt at a command, or else at a reply, with its acknowledge byte. A broadcast has none.
 pub(crate) fn attempt_at(run: &[u8], command: bool, at: usize, out: &mut [u8]) -> Attempt
-    requires { ⌜ 22 ≤ length (now out) ⌝ }
+    requires { ⌜ commandRoom ≤ length (now out) ⌝ }
     ensures { λ r. ⌜ attemptOf r (now (out .exit)) ≡ attemptAt command (now (run .entry)) at ⌝ }
-    ensures { λ r. ⌜ r .len ≤ headOf command + 17 ⌝ }
+    ensures { λ r. ⌜ r .len ≤ roomOf command ⌝ }
 {
     let t = read_telegram(run, command, at, out);
     let reading = t.reading;
@@ -195,9 +205,9 @@ fn nacked_twice(command: bool) -> u8
 
 // The second attempt, behind a first one of so many bytes that was NACKed.
 fn second_try(run: &[u8], command: bool, len: usize, at: usize, second: &mut [u8]) -> Tries
-    requires { ⌜ 22 ≤ length (now second) ⌝ }
+    requires { ⌜ commandRoom ≤ length (now second) ⌝ }
     ensures { λ r. ⌜ ((first : List ℕ) → triesOf r first (now (second .exit)) ≡ onSecond command (take len first) (attemptAt command (now (run .entry)) at)) ⌝ }
-    ensures { λ r. ⌜ (r .len1 ≤ len) × (r .len2 ≤ headOf command + 17) ⌝ }
+    ensures { λ r. ⌜ (r .len1 ≤ len) × (r .len2 ≤ roomOf command) ⌝ }
 {
     let a = attempt_at(run, command, at, second);
     let standing = a.standing;
@@ -224,9 +234,9 @@ pub(crate) fn tries_at(
     first: &mut [u8],
     second: &mut [u8],
 ) -> Tries
-    requires { ⌜ (22 ≤ length (now first)) × (22 ≤ length (now second)) ⌝ }
+    requires { ⌜ (commandRoom ≤ length (now first)) × (commandRoom ≤ length (now second)) ⌝ }
     ensures { λ r. ⌜ triesOf r (now (first .exit)) (now (second .exit)) ≡ triesAt command (now (run .entry)) at ⌝ }
-    ensures { λ r. ⌜ (r .len1 ≤ headOf command + 17) × (r .len2 ≤ headOf command + 17) ⌝ }
+    ensures { λ r. ⌜ (r .len1 ≤ roomOf command) × (r .len2 ≤ roomOf command) ⌝ }
 {
     let a = attempt_at(run, command, at, first);
     let standing = a.standing;

@@ -1,27 +1,31 @@
-// The judge: a recorded exchange is accepted exactly when document 01 accepts it.
+// The judge: a recorded exchange is accepted exactly when the rules accept it (E12 to E16).
 //
 // What is read goes into arrays of the judge's own, and the three buffers are written only once the
 // exchange is accepted, so that a refusal leaves them as they were.
 use crate::attempt::Tried;
 use crate::attempt::tries_at;
+use crate::telegram::COMMAND_ROOM;
+use crate::telegram::REPLY_ROOM;
 use ebus::address::ExchangeKind;
 use ebus::address::kind;
+use ebus::escape::SYN;
+use lists::put;
 use refusal::BUS_ERROR;
 use refusal::OUTPUT_SHORT;
 use refusal::RUN_ENDED;
 use refusal::Refusal;
-use refusal::put;
 ghost use mathlib.Core.Path.{_≡_};
-ghost use mathlib.Core.Bool.{false};
+ghost use mathlib.Core.Bool.{true, false};
+ghost use mathlib.Mathlib.Logic.Function.Defs.{id};
 ghost use mathlib.Core.List.{List, []};
 ghost use Prim.Native.Nat.{ℕ, _≤_};
 ghost use lib.ListN.{length, getD, take};
 ghost use Rattle.refusal.specs.Number.{outputShort, at-place};
 ghost use Rattle.ebus.specs.Address.{kindOf};
-ghost use Rattle.exchange.specs.Exchange.{synAt, rejected, onEnd, onReply, onKind, triesAt, judged};
-ghost use Rattle.exchange.specs.View.{answered, repliesOf, Judges};
-
-const SYN: u8 = 0xAA;
+ghost use Rattle.exchange.specs.Exchange.{synAt, rejected, onEnd, onReply, onKind, triesAt, exchangeAt, rooms, judged};
+ghost use Rattle.exchange.specs.Telegram.{commandRoom, replyRoom};
+ghost use Rattle.exchange.specs.View.{answered, Judges};
+ghost use Rattle.exchange.specs.Inner.{repliesOf};
 
 // What a recorded exchange is: its kind, the attempts at command and reply, and the raw bytes read,
 // SYN included; or why it is refused.
@@ -31,7 +35,7 @@ pub enum Judged {
 }
 
 // Behind an accepted command: how many bytes the attempts at the reply have, and the verdict.
-pub struct Replies {
+struct Replies {
     pub len1: usize,
     pub len2: usize,
     pub verdict: Judged,
@@ -59,7 +63,7 @@ fn verdict_at(run: &[u8], kind: ExchangeKind, commands: u8, replies: u8, at: usi
 // Behind a command that needs no reply.
 fn without_reply(run: &[u8], kind: ExchangeKind, commands: u8, at: usize) -> Replies
     ensures { λ r. ⌜ ((command first second : List ℕ) → repliesOf r command first second ≡ onEnd kind commands 0 command [] [] (synAt (now (run .entry)) at)) ⌝ }
-    ensures { λ r. ⌜ (r .len1 ≤ 18) × (r .len2 ≤ 18) ⌝ }
+    ensures { λ r. ⌜ (r .len1 ≤ replyRoom) × (r .len2 ≤ replyRoom) ⌝ }
 {
     Replies {
         len1: 0,
@@ -70,9 +74,9 @@ fn without_reply(run: &[u8], kind: ExchangeKind, commands: u8, at: usize) -> Rep
 
 // Behind a command whose reply is due: the attempts at it, each into its own output.
 fn with_reply(run: &[u8], commands: u8, at: usize, first: &mut [u8], second: &mut [u8]) -> Replies
-    requires { ⌜ (22 ≤ length (now first)) × (22 ≤ length (now second)) ⌝ }
+    requires { ⌜ (commandRoom ≤ length (now first)) × (commandRoom ≤ length (now second)) ⌝ }
     ensures { λ r. ⌜ ((command : List ℕ) → repliesOf r command (now (first .exit)) (now (second .exit)) ≡ onReply commands command (now (run .entry)) (triesAt false (now (run .entry)) at)) ⌝ }
-    ensures { λ r. ⌜ (r .len1 ≤ 18) × (r .len2 ≤ 18) ⌝ }
+    ensures { λ r. ⌜ (r .len1 ≤ replyRoom) × (r .len2 ≤ replyRoom) ⌝ }
 {
     let t = tries_at(run, false, at, first, second);
     let tried = t.tried;
@@ -104,9 +108,9 @@ fn after_command(
     first: &mut [u8],
     second: &mut [u8],
 ) -> Replies
-    requires { ⌜ (22 ≤ length (now first)) × (22 ≤ length (now second)) ⌝ }
+    requires { ⌜ (commandRoom ≤ length (now first)) × (commandRoom ≤ length (now second)) ⌝ }
     ensures { λ r. ⌜ ((command : List ℕ) → repliesOf r command (now (first .exit)) (now (second .exit)) ≡ onKind commands command (now (run .entry)) at (kindOf destination)) ⌝ }
-    ensures { λ r. ⌜ (r .len1 ≤ 18) × (r .len2 ≤ 18) ⌝ }
+    ensures { λ r. ⌜ (r .len1 ≤ replyRoom) × (r .len2 ≤ replyRoom) ⌝ }
 {
     let k = kind(destination);
     match k {
@@ -129,11 +133,11 @@ fn finish(
     reply_1: &mut [u8],
     reply_2: &mut [u8],
 ) -> Judged
-    requires { ⌜ (2 ≤ length (now bytes)) × (len ≤ length (now bytes)) × (len ≤ length (now command)) × (18 ≤ length (now «reply_1»)) × (18 ≤ length (now «reply_2»)) ⌝ }
-    ensures { λ r. ⌜ Judges (onKind commands (take len (now (bytes .entry))) (now (run .entry)) at (kindOf (getD (now (bytes .entry)) 1 0))) r (now (command .entry)) (now (command .exit)) (now («reply_1» .entry)) (now («reply_1» .exit)) (now («reply_2» .entry)) (now («reply_2» .exit)) ⌝ }
+    requires { ⌜ (2 ≤ length (now bytes)) × (len ≤ length (now bytes)) × (len ≤ length (now command)) × (replyRoom ≤ length (now «reply_1»)) × (replyRoom ≤ length (now «reply_2»)) ⌝ }
+    ensures { λ r. ⌜ Judges id (onKind commands (take len (now (bytes .entry))) (now (run .entry)) at (kindOf (getD (now (bytes .entry)) 1 0))) r (now (command .entry)) (now (command .exit)) (now («reply_1» .entry)) (now («reply_1» .exit)) (now («reply_2» .entry)) (now («reply_2» .exit)) ⌝ }
 {
-    let mut first = [0u8; 22];
-    let mut second = [0u8; 22];
+    let mut first = [0u8; COMMAND_ROOM];
+    let mut second = [0u8; COMMAND_ROOM];
     let e = after_command(run, commands, bytes[1], at, &mut first, &mut second);
     let verdict = e.verdict;
     let Judged::Accepted(_, _, _, _) = verdict else {
@@ -157,29 +161,53 @@ fn too_short() -> Judged
     })
 }
 
-// Judges a recorded run from its start: accepted with kind, attempts and raw bytes read, or refused
-// with document 01's number and place. The buffers hold at least 22, 18 and 18 bytes, else number 1.
-// On success the command buffer starts with the accepted command, the reply buffers with the
-// attempts that happened, and all other bytes stay; on a refusal all three keep their bytes.
-pub fn judge(run: &[u8], command: &mut [u8], reply_1: &mut [u8], reply_2: &mut [u8]) -> Judged
-    ensures { λ r. ⌜ Judges (judged (now (run .entry)) (length (now (command .entry))) (length (now («reply_1» .entry))) (length (now («reply_2» .entry)))) r (now (command .entry)) (now (command .exit)) (now («reply_1» .entry)) (now («reply_1» .exit)) (now («reply_2» .entry)) (now («reply_2» .exit)) ⌝ }
+// Whether buffers of these lengths have the room that is asked of them.
+fn have_room(command: usize, first: usize, second: usize) -> bool
+    ensures { λ r. ⌜ r ≡ rooms command first second ⌝ }
 {
-    if command.len() < 22 {
-        return too_short();
+    if command < COMMAND_ROOM {
+        return false;
     }
-    if reply_1.len() < 18 {
-        return too_short();
+    if first < REPLY_ROOM {
+        return false;
     }
-    if reply_2.len() < 18 {
-        return too_short();
+    if second < REPLY_ROOM {
+        return false;
     }
-    let mut once = [0u8; 22];
-    let mut twice = [0u8; 22];
-    let t = tries_at(run, true, 0, &mut once, &mut twice);
+    true
+}
+
+// Judges the exchange whose command starts at a position, into buffers that have room.
+fn judge_at(
+    run: &[u8],
+    at: usize,
+    command: &mut [u8],
+    reply_1: &mut [u8],
+    reply_2: &mut [u8],
+) -> Judged
+    requires { ⌜ rooms (length (now command)) (length (now «reply_1»)) (length (now «reply_2»)) ≡ true ⌝ }
+    ensures { λ r. ⌜ Judges id (exchangeAt (now (run .entry)) at) r (now (command .entry)) (now (command .exit)) (now («reply_1» .entry)) (now («reply_1» .exit)) (now («reply_2» .entry)) (now («reply_2» .exit)) ⌝ }
+{
+    let mut once = [0u8; COMMAND_ROOM];
+    let mut twice = [0u8; COMMAND_ROOM];
+    let t = tries_at(run, true, at, &mut once, &mut twice);
     let tried = t.tried;
     match tried {
         Tried::Once => finish(run, 1, &once, t.len1, t.next, command, reply_1, reply_2),
         Tried::Twice => finish(run, 2, &twice, t.len2, t.next, command, reply_1, reply_2),
         Tried::Neither(why) => Judged::Refused(why),
     }
+}
+
+// Judges a recorded run from its start: accepted with kind, attempts and raw bytes read, or refused
+// with its number and place. The buffers hold at least 22, 18 and 18 bytes, else number 1.
+// On success the command buffer starts with the accepted command, the reply buffers with the
+// attempts that happened, and all other bytes stay; on a refusal all three keep their bytes.
+pub fn judge(run: &[u8], command: &mut [u8], reply_1: &mut [u8], reply_2: &mut [u8]) -> Judged
+    ensures { λ r. ⌜ Judges id (judged (now (run .entry)) (length (now (command .entry))) (length (now («reply_1» .entry))) (length (now («reply_2» .entry)))) r (now (command .entry)) (now (command .exit)) (now («reply_1» .entry)) (now («reply_1» .exit)) (now («reply_2» .entry)) (now («reply_2» .exit)) ⌝ }
+{
+    if !have_room(command.len(), reply_1.len(), reply_2.len()) {
+        return too_short();
+    }
+    judge_at(run, 0, command, reply_1, reply_2)
 }

@@ -1,5 +1,7 @@
-// The judging of a recorded eBUS exchange: document 01, "eBUS telegrams and exchanges".
-pub mod attempt;
+// eBUS telegrams, read and written, and the judging of a recorded exchange (rules E9 to
+// E17).
+mod attempt;
 pub mod judge;
 pub mod reply;
 pub mod telegram;
+pub mod write;

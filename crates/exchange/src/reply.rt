@@ -1,7 +1,7 @@
 // The data of a reply, as a part of the buffer that holds it.
-use ebus::telegram::LONGEST;
+use crate::telegram::LONGEST;
 ghost use mathlib.Core.Path.{_≡_};
-ghost use Rattle.exchange.specs.Data.{holdsData, replyData};
+ghost use Rattle.exchange.specs.Data.{holdsData, ShowsData};
 
 // Whether a buffer holds LEN and the data behind it: not where there is no LEN, where it is over 16,
 // and where the data would pass the end.
@@ -12,10 +12,10 @@ pub fn holds_data(buffer: &[u8]) -> bool
         return false;
     }
     let n = buffer[0];
-    if LONGEST < n {
+    let size = n as usize;
+    if LONGEST < size {
         return false;
     }
-    let size = n as usize;
     if buffer.len() < 1 + size {
         return false;
     }
@@ -26,7 +26,7 @@ pub fn holds_data(buffer: &[u8]) -> bool
 // judge filled. Without such data, and for an attempt other than 1 and 2, it is the empty start of
 // the first.
 pub fn reply_data<'a>(first: &'a [u8], second: &'a [u8], attempt: u8) -> &'a [u8]
-    ensures { λ r. ⌜ now r ≡ replyData (now (first .entry)) (now (second .entry)) attempt ⌝ }
+    ensures { λ r. ⌜ ShowsData (now (first .entry)) (now (second .entry)) (first .entry .ptr) (second .entry .ptr) attempt (r .ptr) (now r) ⌝ }
 {
     if attempt == 1 {
         if holds_data(first) {

@@ -1,10 +1,11 @@
--- Laws of the scan frames: the FF before an answer, the outcomes of each check and reader, and that reading and writing are
--- inverse to each other.
-pub mod Fill
-pub mod Accepted
-pub mod Outcomes
-pub mod Copy
-pub mod Frame
-pub mod Room
+-- Laws of any framing and of the scan frames: a frame and its reader are inverse to each other, the outcomes of the code's
+-- checks and readers, and the lengths that the crates above count on.
+pub mod Framing
+pub mod HeadCheck
+pub mod LeadingFill
+pub mod ReaderOutcomes
+pub mod CheckBehind
+pub mod FrameLengths
+pub mod Carried
 pub mod RoundTrip
 pub mod Worked

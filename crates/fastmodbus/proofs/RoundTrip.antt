@@ -1,151 +1,175 @@
--- Reading and writing are inverse to each other. Each frame is read back as what went into it, for answers behind any
--- number of FF. And each input that is accepted is exactly FF bytes (answers only) and the frame that the writer gives
--- for what was read.
+-- Reading and writing are inverse to each other: the laws of any framing at the scan frames. Each frame is read back as
+-- what went into it, for answers behind any number of FF. And each input that is accepted is exactly FF bytes (answers
+-- only) and the frame that the writer gives for what was read.
 -- Assumes nothing.
 use mathlib.Core.Path.{_≡_, refl, sym, ap, ap₂, _∙_, subst}
-use mathlib.Core.Bool.{Bool, true, false}
+use mathlib.Core.Bool.{Bool, true, false, _||_}
 use mathlib.Core.List.{List, [], _∷_, _++_}
-use Prim.Native.Nat.{ℕ, _+_, _<_}
+use Prim.Native.Nat.{ℕ, suc, _+_, _<_}
 use native.Mathlib.Omega.{arith}
 use lib.Dec.{eqb, ltb}
-use lib.ListN.{length, replicate, length-replicate}
+use lib.ListN.{length, getD, drop, replicate, length-replicate}
 use borrow.Author.Tests.{lt-ltb, ltb-true, eqb-true, eqb-false}
-use Rattle.refusal.specs.Choice.{pick}
+use Rattle.lists.specs.Choice.{pick}
+use Rattle.lists.specs.Tests.{same}
+use Rattle.lists.proofs.All.{same-self, same-is}
+use Rattle.lists.proofs.Cases.{true-not-false}
 use Rattle.refusal.specs.Number.{serialOver, at-place}
-use Rattle.fastmodbus.specs.Layout.{broadcast, extended, startScan, continueScan, deviceFound, endOfScan, lengthFor, serialLimit, subcommandOf, closed, serialBytes, requestFrame, foundFrame, endFrame}
-use Rattle.fastmodbus.specs.Head.{byteAt, headAt, taken}
-use Rattle.fastmodbus.specs.Reading.{askedBy, requestAt, readRequest, serialAt, answeredBy, answerAt, fill, leadingFill, readAnswer}
+use Rattle.fastmodbus.specs.Framing.{body, frame, FrameRead, framed, wrong, passed, framedAt}
+use Rattle.fastmodbus.specs.Layout.{broadcast, startScan, continueScan, deviceFound, endOfScan, serialLimit, serialBytes, foundBytes, shortest, foundLength, lengthFor, checkBytes, scanFraming, requestFraming, answerFraming, subcommandOf, scanFirst, requestFrame, foundFrame, endFrame}
+use Rattle.fastmodbus.specs.Reading.{askedBy, readRequest, serialOf, addressOf, answeredBy, answerAt, fill, skipped, readAnswer}
 use Rattle.fastmodbus.specs.declared.Request.{Request}
 use Rattle.fastmodbus.specs.declared.Request.the-variants.{Start, Continue}
 use Rattle.fastmodbus.specs.declared.RequestRead.the-variants.{Asked}
 use Rattle.fastmodbus.specs.declared.AnswerRead.the-variants.{Found, End, Refused as AnswerRefused}
-use Rattle.fastmodbus.specs.declared.Head.{Head}
-use Rattle.fastmodbus.specs.declared.Head.the-variants.{Framed, Wrong}
-use Rattle.fastmodbus.proofs.Accepted.{accepts, accepted}
-use Rattle.fastmodbus.proofs.Fill.{fill-before, fill-split}
-use Rattle.fastmodbus.proofs.Frame.{byte-behind, serial-behind, four-joined, closed-accepted, short-exact, long-exact}
+use Rattle.fastmodbus.proofs.Framing.{Sound, frame-read-back, exact, frame-exact, carried-at, given-first}
+use Rattle.fastmodbus.proofs.Carried.{serial-back, carried-exact}
+use Rattle.fastmodbus.proofs.CheckBehind.{length-closed}
+use Rattle.fastmodbus.proofs.LeadingFill.{fill-before, fill-split}
 
 -- an input of bytes
 abbrev pub Bytes : List ℕ → Type 0
-Bytes input = (i : ℕ) → byteAt input i < 256
+Bytes input = (i : ℕ) → getD input i 0 < 256
 
 -- ---- what is written is read back
 
+-- a frame with a subcommand that the reader takes, and with as many bytes as it carries
+scan-read-back : (one other s : ℕ) (before carried : List ℕ) → (eqb s one || eqb s other) ≡ true → eqb (length carried + shortest) (lengthFor s) ≡ true
+    → framedAt (scanFraming one other) (before ++ frame (scanFraming one other) scanFirst s carried) (length before) ≡ framed scanFirst s carried
+unfolding passed frame checkBytes
+scan-read-back one other s before carried takes fits =
+    frame-read-back (scanFraming one other) before scanFirst s carried (record { width = refl; marked = refl; taken = takes; fitting = fits }) refl
+    (same-self (checkBytes (body scanFirst s carried))) (omega (arith, length-closed (body scanFirst s carried)))
+
 pub request-read-back : (request : Request) → readRequest (requestFrame request) ≡ Asked request
-unfolding requestFrame requestAt readRequest
-request-read-back Start = ap askedBy (accepts 1 2 (requestFrame Start) 0 1 (closed-accepted 1 2 1 [] [] refl refl))
-request-read-back Continue = ap askedBy (accepts 1 2 (requestFrame Continue) 0 2 (closed-accepted 1 2 2 [] [] refl refl))
+unfolding requestFrame readRequest
+request-read-back Start = ap askedBy (scan-read-back startScan continueScan startScan [] [] refl refl)
+request-read-back Continue = ap askedBy (scan-read-back startScan continueScan continueScan [] [] refl refl)
 
 -- an answer behind n FF, whatever it carries: the reader passes over those FF and no more, and finds the frame
-module _ (n s : ℕ) (rest : List ℕ) where
-  behind : leadingFill (replicate n fill ++ closed (broadcast ∷ extended ∷ s ∷ rest)) ≡ length (replicate n fill)
-  unfolding closed
-  behind = fill-before n broadcast _ (eqb-false broadcast fill refl) ∙ sym (length-replicate n fill)
-
-  read-behind : taken deviceFound endOfScan s ≡ true → length rest + 5 ≡ lengthFor s
-      → readAnswer (replicate n fill ++ closed (broadcast ∷ extended ∷ s ∷ rest))
-      ≡ answeredBy (replicate n fill ++ closed (broadcast ∷ extended ∷ s ∷ rest)) (length (replicate n fill)) (Framed s)
-  unfolding answerAt readAnswer
-  read-behind takes long =
-      let input = replicate n fill ++ closed (broadcast ∷ extended ∷ s ∷ rest) in
-      let at = length (replicate n fill) in
-      ap (answerAt input) behind
-      ∙ ap (answeredBy input at) (accepts deviceFound endOfScan input at s (closed-accepted deviceFound endOfScan s (replicate n fill) rest takes long))
+answer-read-back : (n s : ℕ) (carried : List ℕ) → (eqb s deviceFound || eqb s endOfScan) ≡ true → eqb (length carried + shortest) (lengthFor s) ≡ true
+    → readAnswer (replicate n fill ++ frame answerFraming scanFirst s carried) ≡ answeredBy n (framed scanFirst s carried)
+unfolding frame answerAt readAnswer
+answer-read-back n s carried takes fits =
+    let before = replicate n fill in
+    let input = before ++ frame answerFraming scanFirst s carried in
+    ap (answerAt input) (fill-before n broadcast _ (eqb-false broadcast fill refl))
+    ∙ ap (λ (at : ℕ). answeredBy n (framedAt answerFraming input at)) (sym (length-replicate n fill))
+    ∙ ap (answeredBy n) (scan-read-back deviceFound endOfScan s before carried takes fits)
 
 pub found-read-back : (n serial address : ℕ) → serial < serialLimit
     → readAnswer (replicate n fill ++ foundFrame serial address) ≡ Found serial address
-unfolding closed serialBytes foundFrame serialAt
+unfolding serialBytes foundBytes foundFrame
 found-read-back n serial address below =
-    let before = replicate n fill in
-    let frame = foundFrame serial address in
-    let same : serialAt (before ++ frame) (length before + 3) ≡ serial = serial-behind before frame 3 ∙ four-joined serial in
-    read-behind n deviceFound (serialBytes serial ++ address ∷ []) refl refl
-    ∙ simp (same, byte-behind before frame 7, lt-ltb serial serialLimit below)
+    answer-read-back n deviceFound (foundBytes serial address) refl refl
+    ∙ simp (serial-back serial address, lt-ltb serial serialLimit below)
 
 pub end-read-back : (n : ℕ) → readAnswer (replicate n fill ++ endFrame) ≡ End
 unfolding endFrame
-end-read-back n = read-behind n endOfScan [] refl refl
+end-read-back n = answer-read-back n endOfScan [] refl refl
 
 -- ---- what is accepted is what would be written
 
+-- no other check bytes pass
+scan-check : (bytes check : List ℕ) → same check (checkBytes bytes) ≡ true → check ≡ checkBytes bytes
+scan-check bytes check e = same-is check (checkBytes bytes) e
+
+-- what was read is a frame with a subcommand that the reader takes, and as many bytes as it carries
+module _ (one other : ℕ) (input : List ℕ) (at : ℕ) (first : List ℕ) (s : ℕ) (carried : List ℕ)
+    (read : framedAt (scanFraming one other) input at ≡ framed first s carried) where
+  pub scan-sound : Sound (scanFraming one other) first s carried
+  scan-sound = exact (scanFraming one other) (omega arith) input at first s carried read .sound
+
+  pub scan-carries : length carried + shortest ≡ lengthFor s
+  scan-carries = eqb-true (length carried + shortest) (lengthFor s) (scan-sound .fitting)
+
+  pub scan-exact : drop at input ≡ frame (scanFraming one other) scanFirst s carried
+  scan-exact =
+      frame-exact (scanFraming one other) (omega arith) input at first s carried read scan-check
+      ∙ ap (λ (l : List ℕ). frame (scanFraming one other) l s carried) (given-first scanFirst first (s ∷ carried) (scan-sound .width) (scan-sound .marked))
+
 -- what holds of the two subcommands that a reader takes holds of each that it accepts
-taken-both : (P : ℕ → Type 0) (one other s : ℕ) → P one → P other → taken one other s ≡ true → P s
+taken-both : (P : ℕ → Type 0) (one other s : ℕ) → P one → P other → (eqb s one || eqb s other) ≡ true → P s
 taken-both P one other s p q e = by (eqb s one) refl e
   where
-    by : (t : Bool) → eqb s one ≡ t → pick t true (eqb s other) ≡ true → P s
+    by : (t : Bool) → eqb s one ≡ t → (t || eqb s other) ≡ true → P s
     by true is e = subst P (sym (eqb-true s one is)) p
     by false is e = subst P (sym (eqb-true s other e)) q
 
--- what the head check found, where a request was read
-asked-is : (h : Head) (request : Request) → askedBy h ≡ Asked request
-    → (s : ℕ) × (h ≡ Framed s) × (pick (eqb s startScan) Start Continue ≡ request)
-asked-is (Framed s) request e = (s, refl, cc)
-asked-is (Wrong why) request e = let z : _≡_ {A = ℕ} 0 1 = cc in absurd (omega arith)
+-- a frame that carries nothing
+nothing : (carried : List ℕ) → length carried + shortest ≡ shortest → carried ≡ []
+nothing [] e = refl
+nothing (x ∷ xs) e = let z : ⊥ = omega arith in absurd z
 
-pub request-exact : (input : List ℕ) (request : Request) → Bytes input → readRequest input ≡ Asked request → input ≡ requestFrame request
-unfolding requestFrame requestAt readRequest
-request-exact input request bytes e =
-    let is = asked-is (headAt startScan continueScan input 0) request e in
-    let s = is .0 in
-    let head = accepted startScan continueScan input 0 s (is .1) in
-    let short = taken-both (λ (x : ℕ). lengthFor x ≡ 5) startScan continueScan s refl refl (head .takes) in
-    let same = taken-both (λ (x : ℕ). x ≡ subcommandOf (pick (eqb x startScan) Start Continue)) startScan continueScan s refl refl (head .takes) in
-    short-exact input 0 bytes startScan continueScan s head short
-    ∙ ap (λ (x : ℕ). closed (broadcast ∷ extended ∷ x ∷ [])) (same ∙ ap subcommandOf (is .2))
+pub request-exact : (input : List ℕ) (request : Request) → readRequest input ≡ Asked request → input ≡ requestFrame request
+unfolding requestFrame readRequest
+request-exact input request e = by (framedAt requestFraming input 0) refl e
+  where
+    by : (r : FrameRead) → framedAt requestFraming input 0 ≡ r → askedBy r ≡ Asked request → input ≡ frame requestFraming scanFirst (subcommandOf request) []
+    by (framed first s carried) read e =
+        let is : pick (eqb s startScan) Start Continue ≡ request = cc in
+        let takes = scan-sound startScan continueScan input 0 first s carried read .taken in
+        let same = taken-both (λ (x : ℕ). x ≡ subcommandOf (pick (eqb x startScan) Start Continue)) startScan continueScan s refl refl takes in
+        let none = taken-both (λ (x : ℕ). lengthFor x ≡ shortest) startScan continueScan s refl refl takes in
+        scan-exact startScan continueScan input 0 first s carried read
+        ∙ ap₂ (frame requestFraming scanFirst) (same ∙ ap subcommandOf is) (nothing carried (scan-carries startScan continueScan input 0 first s carried read ∙ none))
+    by (wrong why) read e = let z : _≡_ {A = ℕ} 0 1 = cc in absurd (omega arith)
 
--- what the head check and the serial found, where a device was read
-module _ (input : List ℕ) (at : ℕ) where
-  found-is : (h : Head) (serial address : ℕ) → answeredBy input at h ≡ Found serial address
-      → (h ≡ Framed deviceFound) × (serial < serialLimit) × (serialAt input (at + 3) ≡ serial) × (byteAt input (at + 7) ≡ address)
-  found-is (Framed s) serial address e = by (eqb s deviceFound) refl (ltb (serialAt input (at + 3)) serialLimit) refl e
+-- what was read where an answer is a device found, and where it is the end
+module _ (at : ℕ) (first : List ℕ) (s : ℕ) (carried : List ℕ) where
+  found-is : (serial address : ℕ) → answeredBy at (framed first s carried) ≡ Found serial address
+      → (s ≡ deviceFound) × (serialOf carried < serialLimit) × (serialOf carried ≡ serial) × (addressOf carried ≡ address)
+  found-is serial address e = by (eqb s deviceFound) refl (ltb (serialOf carried) serialLimit) refl e
     where
-      by : (t : Bool) → eqb s deviceFound ≡ t → (u : Bool) → ltb (serialAt input (at + 3)) serialLimit ≡ u
-          → pick t (pick u (Found (serialAt input (at + 3)) (byteAt input (at + 7))) (AnswerRefused (at-place serialOver (at + 3)))) End ≡ Found serial address
-          → (Framed s ≡ Framed deviceFound) × (serial < serialLimit) × (serialAt input (at + 3) ≡ serial) × (byteAt input (at + 7) ≡ address)
-      by true is true below e =
-          let same : serialAt input (at + 3) ≡ serial = cc in
-          let address-same : byteAt input (at + 7) ≡ address = cc in
-          (ap Framed (eqb-true s deviceFound is), subst (λ (x : ℕ). x < serialLimit) same (ltb-true (serialAt input (at + 3)) serialLimit below), same, address-same)
+      by : (t : Bool) → eqb s deviceFound ≡ t → (u : Bool) → ltb (serialOf carried) serialLimit ≡ u
+          → pick t (pick u (Found (serialOf carried) (addressOf carried)) (AnswerRefused (at-place serialOver (at + 3)))) End ≡ Found serial address
+          → (s ≡ deviceFound) × (serialOf carried < serialLimit) × (serialOf carried ≡ serial) × (addressOf carried ≡ address)
+      by true is true below e = (eqb-true s deviceFound is, ltb-true (serialOf carried) serialLimit below, cc, cc)
       by true is false below e = let z : _≡_ {A = ℕ} 0 1 = cc in absurd (omega arith)
       by false is u below e = let z : _≡_ {A = ℕ} 0 1 = cc in absurd (omega arith)
-  found-is (Wrong why) serial address e = let z : _≡_ {A = ℕ} 0 1 = cc in absurd (omega arith)
 
-  end-is : (h : Head) → answeredBy input at h ≡ End → (s : ℕ) × (h ≡ Framed s) × (eqb s deviceFound ≡ false)
-  end-is (Framed s) e = by (eqb s deviceFound) refl (ltb (serialAt input (at + 3)) serialLimit) e
+  end-is : answeredBy at (framed first s carried) ≡ End → eqb s deviceFound ≡ false
+  end-is e = by (eqb s deviceFound) (ltb (serialOf carried) serialLimit) e
     where
-      by : (t : Bool) → eqb s deviceFound ≡ t → (u : Bool)
-          → pick t (pick u (Found (serialAt input (at + 3)) (byteAt input (at + 7))) (AnswerRefused (at-place serialOver (at + 3)))) End ≡ End
-          → (s′ : ℕ) × (Framed s ≡ Framed s′) × (eqb s′ deviceFound ≡ false)
-      by true is true e = let z : _≡_ {A = ℕ} 0 1 = cc in absurd (omega arith)
-      by true is false e = let z : _≡_ {A = ℕ} 0 1 = cc in absurd (omega arith)
-      by false is u e = (s, refl, is)
-  end-is (Wrong why) e = let z : _≡_ {A = ℕ} 0 1 = cc in absurd (omega arith)
+      by : (t u : Bool) → pick t (pick u (Found (serialOf carried) (addressOf carried)) (AnswerRefused (at-place serialOver (at + 3)))) End ≡ End → t ≡ false
+      by true true e = let z : _≡_ {A = ℕ} 0 1 = cc in absurd (omega arith)
+      by true false e = let z : _≡_ {A = ℕ} 0 1 = cc in absurd (omega arith)
+      by false u e = refl
 
 pub found-exact : (input : List ℕ) (serial address : ℕ) → Bytes input → readAnswer input ≡ Found serial address
-    → (serial < serialLimit) × (input ≡ replicate (leadingFill input) fill ++ foundFrame serial address)
+    → (serial < serialLimit) × (input ≡ replicate (skipped input) fill ++ foundFrame serial address)
 unfolding foundFrame answerAt readAnswer
-found-exact input serial address bytes e =
-    let at = leadingFill input in
-    let is = found-is input at (headAt deviceFound endOfScan input at) serial address e in
-    let head = accepted deviceFound endOfScan input at deviceFound (is .0) in (
-      is .1,
-      fill-split input
-          ∙ ap (λ (l : List ℕ). replicate at fill ++ l)
-          (long-exact input at bytes deviceFound endOfScan deviceFound head refl
-          ∙ ap₂ (λ (x y : ℕ). foundFrame x y) (is .2) (is .3)),
-    )
+found-exact input serial address bytes e = by (framedAt answerFraming input (skipped input)) refl e
+  where
+    by : (r : FrameRead) → framedAt answerFraming input (skipped input) ≡ r → answeredBy (skipped input) r ≡ Found serial address
+        → (serial < serialLimit) × (input ≡ replicate (skipped input) fill ++ foundFrame serial address)
+    by (framed first s carried) read e =
+        let at = skipped input in
+        let is = found-is at first s carried serial address e in
+        let ten : length carried + shortest ≡ foundLength = scan-carries deviceFound endOfScan input at first s carried read ∙ ap lengthFor (is .0) in
+        let five : length carried ≡ 5 = omega arith in
+        let small : (k : ℕ) → k < 5 → getD carried k 0 < 256 =
+        λ k within. subst (λ (x : ℕ). x < 256) (sym (carried-at answerFraming (omega arith) input at first s carried read k (omega arith))) (bytes (at + (2 + suc k))) in
+        let carries : carried ≡ foundBytes serial address = sym (carried-exact carried five small) ∙ ap₂ foundBytes (is .2) (is .3) in (
+          subst (λ (x : ℕ). x < serialLimit) (is .2) (is .1),
+          fill-split input
+              ∙ ap (λ (l : List ℕ). replicate at fill ++ l)
+              (scan-exact deviceFound endOfScan input at first s carried read ∙ ap₂ (frame answerFraming scanFirst) (is .0) carries),
+        )
+    by (wrong why) read e = let z : _≡_ {A = ℕ} 0 1 = cc in absurd (omega arith)
 
-pub end-exact : (input : List ℕ) → Bytes input → readAnswer input ≡ End → input ≡ replicate (leadingFill input) fill ++ endFrame
+pub end-exact : (input : List ℕ) → readAnswer input ≡ End → input ≡ replicate (skipped input) fill ++ endFrame
 unfolding endFrame answerAt readAnswer
-end-exact input bytes e =
-    let at = leadingFill input in
-    let is = end-is input at (headAt deviceFound endOfScan input at) e in
-    let s = is .0 in
-    let head = accepted deviceFound endOfScan input at s (is .1) in
-    let same : s ≡ endOfScan =
-    taken-both (λ (x : ℕ). eqb x deviceFound ≡ false → x ≡ endOfScan) deviceFound endOfScan s
-    (λ no-end. let z : _≡_ {A = ℕ} 0 1 = cc in absurd (omega arith)) (λ is-end. refl) (head .takes) (is .2) in
-    fill-split input
-    ∙ ap (λ (l : List ℕ). replicate at fill ++ l)
-    (short-exact input at bytes deviceFound endOfScan s head (ap lengthFor same)
-    ∙ ap (λ (x : ℕ). closed (broadcast ∷ extended ∷ x ∷ [])) same)
+end-exact input e = by (framedAt answerFraming input (skipped input)) refl e
+  where
+    by : (r : FrameRead) → framedAt answerFraming input (skipped input) ≡ r → answeredBy (skipped input) r ≡ End → input ≡ replicate (skipped input) fill ++ endFrame
+    by (framed first s carried) read e =
+        let at = skipped input in
+        let same : s ≡ endOfScan =
+        taken-both (λ (x : ℕ). eqb x deviceFound ≡ false → x ≡ endOfScan) deviceFound endOfScan s (λ no-end. true-not-false refl no-end) (λ is-end. refl)
+        (scan-sound deviceFound endOfScan input at first s carried read .taken) (end-is at first s carried e) in
+        fill-split input
+        ∙ ap (λ (l : List ℕ). replicate at fill ++ l)
+        (scan-exact deviceFound endOfScan input at first s carried read
+        ∙ ap₂ (frame answerFraming scanFirst) same (nothing carried (scan-carries deviceFound endOfScan input at first s carried read ∙ ap lengthFor same)))
+    by (wrong why) read e = let z : _≡_ {A = ℕ} 0 1 = cc in absurd (omega arith)

@@ -1,5 +1,6 @@
--- The scan frames of Fast Modbus: their layout, how each is read and how each is written.
+-- A framed message with parameters; the scan frames of Fast Modbus, how each is read and how each is written.
+pub mod Framing
 pub mod Layout
-pub mod Head
 pub mod Reading
 pub mod Writing
+pub mod Head

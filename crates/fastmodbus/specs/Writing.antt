@@ -1,9 +1,9 @@
--- What each writer puts at the start of an output with this much room, or why not: "answer 03 gives 17, then 1; answer
--- 04 and requests only 1, all by exact length", every place 0.
+-- Rule N3: what each writer puts at the start of an output with this much room, or why not. A device found may be
+-- refused for its serial before the room is looked at; all else only for the room.
 -- Assumes nothing.
 use Prim.Native.Nat.{ℕ}
 use lib.Dec.{ltb}
-use Rattle.refusal.specs.Choice.{pick}
+use Rattle.lists.specs.Choice.{pick}
 use Rattle.refusal.specs.Number.{serialOver, at-place}
 use Rattle.refusal.specs.Output.{Output, bytes, refused, fitting}
 use Rattle.fastmodbus.specs.Layout.{serialLimit, requestFrame, foundFrame, endFrame}

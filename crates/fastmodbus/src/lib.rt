@@ -1,6 +1,6 @@
 // The scan frames of Fast Modbus, read and written.
 //
-// Document 01, "Fast Modbus scan frames". Requests go to the devices, answers come from them behind
+// Rules F1 to F5. Requests go to the devices, answers come from them behind
 // any number of FF. A reader takes any bytes and any length; what it refuses, it refuses by number
 // and place. A writer writes the whole frame or nothing, and leaves the bytes behind it.
 use refusal::FRAME_CHECK;
@@ -12,14 +12,20 @@ use refusal::SERIAL_OVER;
 use refusal::SUBCOMMAND_WRONG;
 use refusal::Written;
 ghost use mathlib.Core.Path.{_≡_};
-ghost use Prim.Native.Nat.{_+_, _≤_, _<_};
-ghost use lib.ListN.{length};
+ghost use mathlib.Core.Bool.{_||_};
+ghost use mathlib.Core.List.{_++_};
+ghost use mathlib.Mathlib.Logic.Function.Defs.{id};
+ghost use Prim.Native.Nat.{_+_, _-_, _*_, _≤_, _<_};
+ghost use lib.Dec.{eqb};
+ghost use lib.ListN.{length, getD, take, drop};
+ghost use Rattle.lists.specs.Tests.{same};
 ghost use Rattle.refusal.specs.Number.{at-place};
-ghost use Rattle.refusal.specs.Output.{bytes, fitting, answer, left};
-ghost use Rattle.fastmodbus.specs.Layout.{closed, lengthFor, subcommandOf};
-ghost use Rattle.fastmodbus.specs.Head.{pairAt, taken, headAt};
-ghost use Rattle.fastmodbus.specs.Reading.{serialAt, leadingFill, answerAt, readRequest, readAnswer};
+ghost use Rattle.refusal.specs.Output.{bytes, fitting, Wrote};
+ghost use Rattle.fastmodbus.specs.Framing.{framedAt};
+ghost use Rattle.fastmodbus.specs.Layout.{broadcast, extended, shortest, lengthFor, checkBytes, scanFraming, subcommandOf};
+ghost use Rattle.fastmodbus.specs.Reading.{askedFor, serialOf, skipped, found, answerAt, readRequest, readAnswer};
 ghost use Rattle.fastmodbus.specs.Writing.{writeRequest, writeFound, writeEnd};
+ghost use Rattle.fastmodbus.specs.Head.{headOf};
 
 // The broadcast address, and the command for extended functions.
 const BROADCAST: u8 = 0xFD;
@@ -35,16 +41,17 @@ const FOUND: u8 = 0x03;
 
 const END: u8 = 0x04;
 
-// How long a frame is, and how long that of a device found.
-const SHORTEST: usize = 5;
+// How long the frame of a device found is.
+pub const FOUND_LENGTH: usize = 10;
 
-const FOUND_LENGTH: usize = 10;
+// How long the frame that ends a scan is, and every other that carries nothing: none is shorter.
+pub const END_LENGTH: usize = 5;
 
 // The byte that a dominant window puts before an answer.
-const FILL: u8 = 0xFF;
+pub const FILL: u8 = 0xFF;
 
 // A serial is below this.
-const SERIAL_LIMIT: u32 = 0x10000000;
+pub const SERIAL_LIMIT: u32 = 0x1000_0000;
 
 // What a client asks of the devices.
 pub enum Request {
@@ -65,10 +72,33 @@ pub enum AnswerRead {
     Refused(Refusal),
 }
 
-// What the check of a frame's head, length and check finds: the subcommand, or the refusal.
+// What the head check finds: the subcommand of a frame that is whole and right, or the refusal.
 enum Head {
     Framed(u8),
     Wrong(Refusal),
+}
+
+// ---- the check
+
+// The two check bytes of a body.
+fn check_of(body: &[u8]) -> [u8; 2]
+    ensures { λ r. ⌜ r ≡ checkBytes (now (body .entry)) ⌝ }
+{
+    let check = crc::modbus_check(body);
+    [(check % 256) as u8, (check / 256) as u8]
+}
+
+// Whether the last two bytes of the input, at this place, are the check of all from the position up
+// to them.
+fn check_passes(input: &[u8], at: usize, place: usize) -> bool
+    requires { ⌜ (at ≤ place) × (place + 2 ≡ length (now input)) ⌝ }
+    ensures { λ r. ⌜ r ≡ same (drop place (now (input .entry))) (checkBytes (take (place - at) (drop at (now (input .entry))))) ⌝ }
+{
+    let check = check_of(&input[at..place]);
+    if input[place] != check[0] {
+        return false;
+    }
+    input[place + 1] == check[1]
 }
 
 // ---- reading
@@ -82,7 +112,7 @@ fn wrong(number: u8, place: usize) -> Head
 
 // Whether the subcommand is one of the two that a reader takes.
 fn takes(one: u8, other: u8, subcommand: u8) -> bool
-    ensures { λ r. ⌜ r ≡ taken one other subcommand ⌝ }
+    ensures { λ r. ⌜ r ≡ (eqb subcommand one || eqb subcommand other) ⌝ }
 {
     if subcommand == one {
         return true;
@@ -97,37 +127,18 @@ fn length_for(subcommand: u8) -> usize
     if subcommand == FOUND {
         FOUND_LENGTH
     } else {
-        SHORTEST
+        END_LENGTH
     }
 }
 
-// Two bytes, low byte first.
-fn pair_at(input: &[u8], place: usize) -> u16
-    requires { ⌜ place + 1 < length (now input) ⌝ }
-    ensures { λ r. ⌜ r ≡ pairAt (now (input .entry)) place ⌝ }
-{
-    let low = input[place] as u16;
-    let high = input[place + 1] as u16;
-    low + high * 256
-}
-
-// Four bytes, high byte first.
-fn serial_at(input: &[u8], place: usize) -> u32
-    requires { ⌜ place + 3 < length (now input) ⌝ }
-    ensures { λ r. ⌜ r ≡ serialAt (now (input .entry)) place ⌝ }
-{
-    let high = input[place] as u32 * 256 + input[place + 1] as u32;
-    (high * 256 + input[place + 2] as u32) * 256 + input[place + 3] as u32
-}
-
-// The subcommand of a frame at this position that fills the rest of the input, where it is one of
-// the two that the caller takes, or the refusal.
+// The head check: the subcommand of a frame at this position that fills the rest of the input, where
+// it is one of the two that the caller takes, or the refusal.
 fn head_at(one: u8, other: u8, input: &[u8], at: usize) -> Head
     requires { ⌜ at ≤ length (now input) ⌝ }
-    ensures { λ r. ⌜ r ≡ headAt one other (now (input .entry)) at ⌝ }
+    ensures { λ r. ⌜ r ≡ headOf (framedAt (scanFraming one other) (now (input .entry)) at) ⌝ }
 {
     let left = input.len() - at;
-    if left < SHORTEST {
+    if left < END_LENGTH {
         return wrong(FRAME_LENGTH, 0);
     }
     if input[at] != BROADCAST {
@@ -136,20 +147,38 @@ fn head_at(one: u8, other: u8, input: &[u8], at: usize) -> Head
     if input[at + 1] != EXTENDED {
         return wrong(FRAME_HEAD, at + 1);
     }
+    marked_at(one, other, input, at)
+}
+
+// The same, where the rest is long enough and its first bytes are right.
+fn marked_at(one: u8, other: u8, input: &[u8], at: usize) -> Head
+    requires { ⌜ (shortest + at ≤ length (now input)) × (getD (now input) at 0 ≡ broadcast) × (getD (now input) (at + 1) 0 ≡ extended) ⌝ }
+    ensures { λ r. ⌜ r ≡ headOf (framedAt (scanFraming one other) (now (input .entry)) at) ⌝ }
+{
     let subcommand = input[at + 2];
     if !takes(one, other, subcommand) {
         return wrong(SUBCOMMAND_WRONG, at + 2);
     }
-    let size = length_for(subcommand);
-    if left != size {
+    let left = input.len() - at;
+    if left != length_for(subcommand) {
         return wrong(FRAME_LENGTH, 0);
     }
-    let body = size - 2;
-    let place = at + body;
-    if pair_at(input, place) != crc::modbus_check(&input[at..place]) {
-        return wrong(FRAME_CHECK, place);
+    let body = left - 2;
+    let check_place = at + body;
+    if !check_passes(input, at, check_place) {
+        return wrong(FRAME_CHECK, check_place);
     }
     Head::Framed(subcommand)
+}
+
+// What a frame of one of the two request subcommands asks.
+fn asked(subcommand: u8) -> Request
+    ensures { λ r. ⌜ r ≡ askedFor subcommand ⌝ }
+{
+    if subcommand == START {
+        return Request::Start;
+    }
+    Request::Continue
 }
 
 // What a request frame asks. It must fill the whole input; nothing is passed over.
@@ -158,19 +187,14 @@ pub fn read_request(input: &[u8]) -> RequestRead
 {
     let head = head_at(START, CONTINUE, input, 0);
     match head {
-        Head::Framed(subcommand) => {
-            if subcommand == START {
-                return RequestRead::Asked(Request::Start);
-            }
-            RequestRead::Asked(Request::Continue)
-        }
+        Head::Framed(subcommand) => RequestRead::Asked(asked(subcommand)),
         Head::Wrong(why) => RequestRead::Refused(why),
     }
 }
 
-// How many FF the input begins with.
-fn leading_fill(input: &[u8]) -> usize
-    ensures { λ r. ⌜ (r ≡ leadingFill (now (input .entry))) × (r ≤ length (now (input .entry))) ⌝ }
+// How many bytes the answer reader passes over: the FF that the input begins with.
+fn skipped(input: &[u8]) -> usize
+    ensures { λ r. ⌜ (r ≡ skipped (now (input .entry))) × (r ≤ length (now (input .entry))) ⌝ }
 {
     let mut i = 0;
     while i < input.len() {
@@ -180,6 +204,42 @@ fn leading_fill(input: &[u8]) -> usize
         i += 1;
     }
     i
+}
+
+// Two bytes, high byte first.
+fn pair_at(input: &[u8], place: usize) -> u32
+    requires { ⌜ place + 1 < length (now input) ⌝ }
+    ensures { λ r. ⌜ (r ≡ getD (now (input .entry)) place 0 * 256 + getD (now (input .entry)) (place + 1) 0) × (r < 65536) ⌝ }
+{
+    let high = input[place] as u32;
+    let low = input[place + 1] as u32;
+    high * 256 + low
+}
+
+// Four bytes, high byte first.
+fn serial_at(input: &[u8], place: usize) -> u32
+    requires { ⌜ place + 3 < length (now input) ⌝ }
+    ensures { λ r. ⌜ r ≡ serialOf (drop place (now (input .entry))) ⌝ }
+{
+    pair_at(input, place) * 65536 + pair_at(input, place + 2)
+}
+
+// What the frame of a device found at this position says.
+fn found_at(input: &[u8], at: usize) -> AnswerRead
+    requires { ⌜ at + 7 < length (now input) ⌝ }
+    ensures { λ r. ⌜ r ≡ found at (drop (at + 3) (now (input .entry))) ⌝ }
+{
+    let serial = serial_at(input, at + 3);
+    if serial < SERIAL_LIMIT {
+        return AnswerRead::Found {
+            serial,
+            address: input[at + 7],
+        };
+    }
+    AnswerRead::Refused(Refusal {
+        number: SERIAL_OVER,
+        place: at + 3,
+    })
 }
 
 // What an answer frame at this position says.
@@ -193,17 +253,7 @@ fn answer_at(input: &[u8], at: usize) -> AnswerRead
             if subcommand != FOUND {
                 return AnswerRead::End;
             }
-            let serial = serial_at(input, at + 3);
-            if serial < SERIAL_LIMIT {
-                return AnswerRead::Found {
-                    serial,
-                    address: input[at + 7],
-                };
-            }
-            AnswerRead::Refused(Refusal {
-                number: SERIAL_OVER,
-                place: at + 3,
-            })
+            found_at(input, at)
         }
         Head::Wrong(why) => AnswerRead::Refused(why),
     }
@@ -214,7 +264,7 @@ fn answer_at(input: &[u8], at: usize) -> AnswerRead
 pub fn read_answer(input: &[u8]) -> AnswerRead
     ensures { λ r. ⌜ r ≡ readAnswer (now (input .entry)) ⌝ }
 {
-    let at = leading_fill(input);
+    let at = skipped(input);
     answer_at(input, at)
 }
 
@@ -223,7 +273,7 @@ pub fn read_answer(input: &[u8]) -> AnswerRead
 // The body and its check behind it, at the start of the output, where both fit.
 fn write_closed(body: &[u8], out: &mut [u8]) -> Written
     requires { ⌜ length (now body) ≤ 8 ⌝ }
-    ensures { λ r. ⌜ (r ≡ answer (fitting (length (now (out .entry))) (bytes (closed (now (body .entry)))))) × (now (out .exit) ≡ left (fitting (length (now (out .entry))) (bytes (closed (now (body .entry))))) (now (out .entry))) ⌝ }
+    ensures { λ r. ⌜ Wrote id (fitting (length (now (out .entry))) (bytes (now (body .entry) ++ checkBytes (now (body .entry))))) r (now (out .entry)) (now (out .exit)) ⌝ }
 {
     let size = body.len();
     if out.len() < size + 2 {
@@ -232,14 +282,10 @@ fn write_closed(body: &[u8], out: &mut [u8]) -> Written
             place: 0,
         });
     }
-    let check = crc::modbus_check(body);
-    let mut i = 0;
-    while i < size {
-        out[i] = body[i];
-        i += 1;
-    }
-    out[size] = (check % 256) as u8;
-    out[size + 1] = (check / 256) as u8;
+    let check = check_of(body);
+    lists::put(body, out);
+    out[size] = check[0];
+    out[size + 1] = check[1];
     Written::Length(size + 2)
 }
 
@@ -255,7 +301,7 @@ fn subcommand_of(request: Request) -> u8
 
 // Writes a request frame.
 pub fn write_request(request: Request, out: &mut [u8]) -> Written
-    ensures { λ r. ⌜ (r ≡ answer (writeRequest request (length (now (out .entry))))) × (now (out .exit) ≡ left (writeRequest request (length (now (out .entry)))) (now (out .entry))) ⌝ }
+    ensures { λ r. ⌜ Wrote id (writeRequest request (length (now (out .entry)))) r (now (out .entry)) (now (out .exit)) ⌝ }
 {
     let body = [BROADCAST, EXTENDED, subcommand_of(request)];
     write_closed(&body, out)
@@ -264,7 +310,7 @@ pub fn write_request(request: Request, out: &mut [u8]) -> Written
 // Writes the answer of a device with this serial and this address. A serial of 2^28 or more is
 // refused before the room is looked at.
 pub fn write_found(serial: u32, address: u8, out: &mut [u8]) -> Written
-    ensures { λ r. ⌜ (r ≡ answer (writeFound serial address (length (now (out .entry))))) × (now (out .exit) ≡ left (writeFound serial address (length (now (out .entry)))) (now (out .entry))) ⌝ }
+    ensures { λ r. ⌜ Wrote id (writeFound serial address (length (now (out .entry)))) r (now (out .entry)) (now (out .exit)) ⌝ }
 {
     if serial >= SERIAL_LIMIT {
         return Written::Refused(Refusal {
@@ -287,7 +333,7 @@ pub fn write_found(serial: u32, address: u8, out: &mut [u8]) -> Written
 
 // Writes the answer that ends a scan.
 pub fn write_end(out: &mut [u8]) -> Written
-    ensures { λ r. ⌜ (r ≡ answer (writeEnd (length (now (out .entry))))) × (now (out .exit) ≡ left (writeEnd (length (now (out .entry)))) (now (out .entry))) ⌝ }
+    ensures { λ r. ⌜ Wrote id (writeEnd (length (now (out .entry)))) r (now (out .entry)) (now (out .exit)) ⌝ }
 {
     let body = [BROADCAST, EXTENDED, END];
     write_closed(&body, out)

@@ -1,3 +1,3 @@
--- Laws of the calls for C: where a reply's data stands, and how many devices a scan heard.
-pub mod Shown
+-- Laws of the calls for C: how many devices a scan heard, and what a request's number writes.
 pub mod Heard
+pub mod RequestOutput

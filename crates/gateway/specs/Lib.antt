@@ -1,2 +1,2 @@
--- What the calls for C are promised to give, with the exit content of what is lent.
+-- What only the calls for C have: a request by its number, and a part of a buffer as numbers.
 pub mod Lent

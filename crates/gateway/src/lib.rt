@@ -2,8 +2,8 @@
 // with a plain name, on numbers and slices.
 //
 // A slice is handed over as pointer and length. The answer of a call that can refuse is a struct by
-// value: its number is 0 where the call was accepted, and else document 01's number with the place
-// beside it; the other values are then 0. Calls that never refuse give their values alone.
+// value: its number is 0 where the call was accepted, and else rule N1's number with the place beside
+// it; the other values are then 0. Calls that never refuse give their values alone.
 // `host/include/moortinker.h` declares the same for C.
 pub mod frames;
 pub mod scans;

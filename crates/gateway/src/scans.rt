@@ -1,15 +1,19 @@
 // The devices' side of a Fast Modbus scan for C.
-use answers::ContestAnswer;
-use answers::ScanAnswer;
-use answers::WriteAnswer;
-use answers::device_answer;
-use answers::scan_answer;
+use boundary::MoorDecided;
+use boundary::MoorScanned;
+use boundary::MoorWritten;
+use boundary::decided_for_c;
+use boundary::response_for_c;
+use boundary::scanned_for_c;
 ghost use mathlib.Core.Path.{_≡_};
-ghost use Rattle.arbitration.specs.Contest.{dominantWindows, winner};
+ghost use Rattle.arbitration.specs.Contest.{decided};
 ghost use Rattle.table.specs.Table.{columns, valid};
-ghost use Rattle.devices.specs.Calls.{startCall, continueCall, offerCall};
-ghost use Rattle.devices.specs.WholeScan.{scanCall};
-ghost use Rattle.gateway.specs.Lent.{Answers, Scans};
+ghost use Rattle.devices.specs.Calls.{Gives, startCall, continueCall, offerCall};
+ghost use Rattle.devices.specs.WholeScan.{GivesScan, scanCall};
+ghost use Rattle.boundary.specs.ForC.{decidedForC, responseForC, scannedForC};
+
+// A key of a scan has a window for each of its bits.
+const WINDOWS: u32 = 32;
 
 // Whether the three columns are a valid table.
 #[no_mangle]
@@ -21,14 +25,10 @@ pub extern "C" fn moor_table_valid(serials: &[u32], addresses: &[u8], marks: &[u
 
 // The contest of the keys over 32 windows. Where nobody contends, key and dominant windows are 0.
 #[no_mangle]
-pub extern "C" fn moor_contest(keys: &[u32]) -> ContestAnswer
-    ensures { λ r. ⌜ r ≡ record { key = winner 32 (now (keys .entry)); dominant = dominantWindows 32 (now (keys .entry)) } ⌝ }
+pub extern "C" fn moor_contest(keys: &[u32]) -> MoorDecided
+    ensures { λ r. ⌜ r ≡ decidedForC (decided 32 (now (keys .entry))) ⌝ }
 {
-    let decided = arbitration::contest(keys);
-    ContestAnswer {
-        key: decided.key,
-        dominant: decided.dominant,
-    }
+    decided_for_c(arbitration::contest(keys, WINDOWS))
 }
 
 // A start: all marks become 0, then all devices contend. Length 0 is silence.
@@ -38,10 +38,10 @@ pub extern "C" fn moor_start(
     addresses: &[u8],
     marks: &mut [u8],
     answer: &mut [u8],
-) -> WriteAnswer
-    ensures { λ r. ⌜ Answers (startCall (now (answer .entry)) (columns (now (serials .entry)) (now (addresses .entry)) (now (marks .entry)))) r (now (answer .exit)) (now (marks .exit)) ⌝ }
+) -> MoorWritten
+    ensures { λ r. ⌜ Gives responseForC (startCall (now (answer .entry)) (columns (now (serials .entry)) (now (addresses .entry)) (now (marks .entry)))) r (now (answer .exit)) (columns (now (serials .entry)) (now (addresses .entry)) (now (marks .exit))) ⌝ }
 {
-    device_answer(devices::start(serials, addresses, marks, answer))
+    response_for_c(devices::start(serials, addresses, marks, answer))
 }
 
 // A continue: all devices contend with the marks as they stand.
@@ -51,10 +51,10 @@ pub extern "C" fn moor_resume(
     addresses: &[u8],
     marks: &mut [u8],
     answer: &mut [u8],
-) -> WriteAnswer
-    ensures { λ r. ⌜ Answers (continueCall (now (answer .entry)) (columns (now (serials .entry)) (now (addresses .entry)) (now (marks .entry)))) r (now (answer .exit)) (now (marks .exit)) ⌝ }
+) -> MoorWritten
+    ensures { λ r. ⌜ Gives responseForC (continueCall (now (answer .entry)) (columns (now (serials .entry)) (now (addresses .entry)) (now (marks .entry)))) r (now (answer .exit)) (columns (now (serials .entry)) (now (addresses .entry)) (now (marks .exit))) ⌝ }
 {
-    device_answer(devices::resume(serials, addresses, marks, answer))
+    response_for_c(devices::resume(serials, addresses, marks, answer))
 }
 
 // A raw frame offered to the devices: the start or the continue that it names.
@@ -65,10 +65,10 @@ pub extern "C" fn moor_offer(
     addresses: &[u8],
     marks: &mut [u8],
     answer: &mut [u8],
-) -> WriteAnswer
-    ensures { λ r. ⌜ Answers (offerCall (now (frame .entry)) (now (answer .entry)) (columns (now (serials .entry)) (now (addresses .entry)) (now (marks .entry)))) r (now (answer .exit)) (now (marks .exit)) ⌝ }
+) -> MoorWritten
+    ensures { λ r. ⌜ Gives responseForC (offerCall (now (frame .entry)) (now (answer .entry)) (columns (now (serials .entry)) (now (addresses .entry)) (now (marks .entry)))) r (now (answer .exit)) (columns (now (serials .entry)) (now (addresses .entry)) (now (marks .exit))) ⌝ }
 {
-    device_answer(devices::offer(frame, serials, addresses, marks, answer))
+    response_for_c(devices::offer(frame, serials, addresses, marks, answer))
 }
 
 // A whole scan of at most so many requests. The serials and addresses heard stand at the start of
@@ -81,10 +81,10 @@ pub extern "C" fn moor_scan(
     found_serials: &mut [u32],
     found_addresses: &mut [u8],
     cap: usize,
-) -> ScanAnswer
-    ensures { λ r. ⌜ Scans (scanCall cap (now («found_serials» .entry)) (now («found_addresses» .entry)) (columns (now (serials .entry)) (now (addresses .entry)) (now (marks .entry)))) r (now («found_serials» .exit)) (now («found_addresses» .exit)) (now (marks .exit)) ⌝ }
+) -> MoorScanned
+    ensures { λ r. ⌜ GivesScan scannedForC (scanCall cap (now («found_serials» .entry)) (now («found_addresses» .entry)) (columns (now (serials .entry)) (now (addresses .entry)) (now (marks .entry)))) r (now («found_serials» .exit)) (now («found_addresses» .exit)) (columns (now (serials .entry)) (now (addresses .entry)) (now (marks .exit))) ⌝ }
 {
-    scan_answer(devices::scan(
+    scanned_for_c(devices::scan(
         serials,
         addresses,
         marks,

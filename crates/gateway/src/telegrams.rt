@@ -1,27 +1,28 @@
 // Telegrams and exchanges on eBUS for C.
-use answers::JudgeAnswer;
-use answers::PartAnswer;
-use answers::TelegramAnswer;
-use answers::WriteAnswer;
-use answers::judge_answer;
-use answers::write_answer;
-use ebus::telegram::Reading;
+use boundary::MoorJudged;
+use boundary::MoorPart;
+use boundary::MoorTelegram;
+use boundary::MoorWritten;
+use boundary::judged_for_c;
+use boundary::written_for_c;
+use exchange::telegram::Reading;
 use exchange::telegram::Telegram;
-use refusal::put;
+use lists::put;
 ghost use mathlib.Core.Path.{_≡_};
 ghost use lib.ListN.{length};
 ghost use Prim.Native.Nat.{_≤_};
-ghost use Rattle.refusal.specs.Output.{fitting};
-ghost use Rattle.ebus.specs.Telegram.{telegramAt, headOf, checkRight, commandOutput, replyOutput};
-ghost use Rattle.exchange.specs.View.{telegramOf};
+ghost use Rattle.refusal.specs.Output.{fitting, Wrote};
+ghost use Rattle.exchange.specs.Telegram.{telegramAt, checkRight, commandOutput, replyOutput};
+ghost use Rattle.exchange.specs.View.{telegramOf, Judges};
 ghost use Rattle.exchange.specs.Exchange.{judged};
-ghost use Rattle.answers.specs.Answers.{telegramAnswer};
-ghost use Rattle.gateway.specs.Lent.{Writes, JudgesInto, Shows, emptyStart, partIn};
+ghost use Rattle.boundary.specs.ForC.{telegramForC, writtenForC, judgedForC};
+ghost use Rattle.exchange.specs.Data.{emptyStart, partIn, partOf};
+ghost use Rattle.gateway.specs.Lent.{partForC};
 
 // A telegram as far as it was read, as an answer.
-fn telegram_answer(x: Telegram) -> TelegramAnswer
+fn telegram_for_c(x: Telegram) -> MoorTelegram
     requires { ⌜ x .len ≤ 22 ⌝ }
-    ensures { λ r. ⌜ r ≡ telegramAnswer (telegramOf x) ⌝ }
+    ensures { λ r. ⌜ r ≡ telegramForC (telegramOf x) ⌝ }
 {
     let reading = x.reading;
     match reading {
@@ -30,7 +31,7 @@ fn telegram_answer(x: Telegram) -> TelegramAnswer
             let length = x.len;
             let mut bytes = [0u8; 22];
             put(&read[..length], &mut bytes);
-            TelegramAnswer {
+            MoorTelegram {
                 number: 0,
                 place: 0,
                 length,
@@ -39,7 +40,7 @@ fn telegram_answer(x: Telegram) -> TelegramAnswer
                 bytes,
             }
         }
-        Reading::Unread(why) => TelegramAnswer {
+        Reading::Unread(why) => MoorTelegram {
             number: why.number,
             place: why.place,
             length: 0,
@@ -52,10 +53,10 @@ fn telegram_answer(x: Telegram) -> TelegramAnswer
 
 // The command, or else the reply, at a position of the run; its check byte is not judged.
 #[no_mangle]
-pub extern "C" fn moor_telegram_at(run: &[u8], command: bool, at: usize) -> TelegramAnswer
-    ensures { λ r. ⌜ r ≡ telegramAnswer (telegramAt (headOf command) (now (run .entry)) at) ⌝ }
+pub extern "C" fn moor_telegram_at(run: &[u8], command: bool, at: usize) -> MoorTelegram
+    ensures { λ r. ⌜ r ≡ telegramForC (telegramAt command (now (run .entry)) at) ⌝ }
 {
-    telegram_answer(exchange::telegram::telegram_at(run, command, at))
+    telegram_for_c(exchange::telegram::telegram_at(run, command, at))
 }
 
 // Whether the last byte is the check byte of those before it.
@@ -63,7 +64,7 @@ pub extern "C" fn moor_telegram_at(run: &[u8], command: bool, at: usize) -> Tele
 pub extern "C" fn moor_check_right(telegram: &[u8]) -> bool
     ensures { λ r. ⌜ r ≡ checkRight (now (telegram .entry)) ⌝ }
 {
-    ebus::telegram::check_right(telegram)
+    exchange::telegram::check_right(telegram)
 }
 
 // Writes a command: 6, 7, 8, then 1 if its exact wire length exceeds the output.
@@ -75,18 +76,25 @@ pub extern "C" fn moor_write_command(
     secondary: u8,
     payload: &[u8],
     out: &mut [u8],
-) -> WriteAnswer
-    ensures { λ r. ⌜ Writes (fitting (length (now (out .entry))) (commandOutput source destination primary secondary (now (payload .entry)))) r (now (out .entry)) (now (out .exit)) ⌝ }
+) -> MoorWritten
+    ensures { λ r. ⌜ Wrote writtenForC (fitting (length (now (out .entry))) (commandOutput source destination primary secondary (now (payload .entry)))) r (now (out .entry)) (now (out .exit)) ⌝ }
 {
-    write_answer(ebus::write::write_command(source, destination, primary, secondary, payload, out))
+    written_for_c(exchange::write::write_command(
+        source,
+        destination,
+        primary,
+        secondary,
+        payload,
+        out,
+    ))
 }
 
 // Writes a reply: 8, then 1 if its exact wire length exceeds the output.
 #[no_mangle]
-pub extern "C" fn moor_write_reply(payload: &[u8], out: &mut [u8]) -> WriteAnswer
-    ensures { λ r. ⌜ Writes (fitting (length (now (out .entry))) (replyOutput (now (payload .entry)))) r (now (out .entry)) (now (out .exit)) ⌝ }
+pub extern "C" fn moor_write_reply(payload: &[u8], out: &mut [u8]) -> MoorWritten
+    ensures { λ r. ⌜ Wrote writtenForC (fitting (length (now (out .entry))) (replyOutput (now (payload .entry)))) r (now (out .entry)) (now (out .exit)) ⌝ }
 {
-    write_answer(ebus::write::write_reply(payload, out))
+    written_for_c(exchange::write::write_reply(payload, out))
 }
 
 // Judges a recorded run from its start into buffers of at least 22, 18 and 18 bytes.
@@ -96,17 +104,17 @@ pub extern "C" fn moor_judge(
     command: &mut [u8],
     reply_1: &mut [u8],
     reply_2: &mut [u8],
-) -> JudgeAnswer
-    ensures { λ r. ⌜ JudgesInto (judged (now (run .entry)) (length (now (command .entry))) (length (now («reply_1» .entry))) (length (now («reply_2» .entry)))) r (now (command .entry)) (now (command .exit)) (now («reply_1» .entry)) (now («reply_1» .exit)) (now («reply_2» .entry)) (now («reply_2» .exit)) ⌝ }
+) -> MoorJudged
+    ensures { λ r. ⌜ Judges judgedForC (judged (now (run .entry)) (length (now (command .entry))) (length (now («reply_1» .entry))) (length (now («reply_2» .entry)))) r (now (command .entry)) (now (command .exit)) (now («reply_1» .entry)) (now («reply_1» .exit)) (now («reply_2» .entry)) (now («reply_2» .exit)) ⌝ }
 {
-    judge_answer(exchange::judge::judge(run, command, reply_1, reply_2))
+    judged_for_c(exchange::judge::judge(run, command, reply_1, reply_2))
 }
 
 // The empty start of the first buffer.
-fn empty_start() -> PartAnswer
-    ensures { λ r. ⌜ r ≡ emptyStart ⌝ }
+fn empty_start() -> MoorPart
+    ensures { λ r. ⌜ r ≡ partForC emptyStart ⌝ }
 {
-    PartAnswer {
+    MoorPart {
         attempt: 1,
         start: 0,
         length: 0,
@@ -114,11 +122,11 @@ fn empty_start() -> PartAnswer
 }
 
 // Where the data stands in the buffer of an attempt.
-fn part_in(attempt: u8, buffer: &[u8]) -> PartAnswer
-    ensures { λ r. ⌜ r ≡ partIn attempt (now (buffer .entry)) ⌝ }
+fn part_in(attempt: u8, buffer: &[u8]) -> MoorPart
+    ensures { λ r. ⌜ r ≡ partForC (partIn attempt (now (buffer .entry))) ⌝ }
 {
     if exchange::reply::holds_data(buffer) {
-        return PartAnswer {
+        return MoorPart {
             attempt,
             start: 1,
             length: buffer[0] as usize,
@@ -130,8 +138,8 @@ fn part_in(attempt: u8, buffer: &[u8]) -> PartAnswer
 // Where the data of the reply attempt asked for stands, in the buffers that the judge filled: C cannot
 // take a part of a slice.
 #[no_mangle]
-pub extern "C" fn moor_reply_data(reply_1: &[u8], reply_2: &[u8], attempt: u8) -> PartAnswer
-    ensures { λ r. ⌜ Shows (now («reply_1» .entry)) (now («reply_2» .entry)) attempt r ⌝ }
+pub extern "C" fn moor_reply_data(reply_1: &[u8], reply_2: &[u8], attempt: u8) -> MoorPart
+    ensures { λ r. ⌜ r ≡ partForC (partOf (now («reply_1» .entry)) (now («reply_2» .entry)) attempt) ⌝ }
 {
     if attempt == 1 {
         return part_in(1, reply_1);

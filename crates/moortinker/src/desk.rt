@@ -1,93 +1,103 @@
-// What the tool keeps from line to line beside the table's columns, and what a command answers.
+// What the tool keeps from line to line, and what a command leaves: the desk after it.
+use crate::fault;
 use crate::fault::Fault;
 use crate::fault::What;
-use crate::fault::fault_at;
-use crate::say;
-use crate::word;
-use crate::word::NumberRead;
 
 // Every output has room for what a line of 8,192 bytes expands to.
 pub(crate) const FULL: usize = 16384;
 
 // The most that `room` takes.
-const MOST_ROOM: u64 = 8192;
+pub(crate) const MOST_ROOM: usize = 8192;
 
 // What lent outputs are filled with before a call.
 pub(crate) const FILL: u8 = 0x5A;
 
-pub(crate) struct Desk {
-    // Rows of the table.
+// The rows that the table has room for.
+pub(crate) const MOST_ROWS: usize = 256;
+
+// The device table: its columns, and how many rows of them there are.
+pub(crate) struct Table {
     pub(crate) rows: usize,
+    pub(crate) serials: [u32; MOST_ROWS],
+    pub(crate) addresses: [u8; MOST_ROWS],
+    pub(crate) marks: [u8; MOST_ROWS],
+}
+
+pub(crate) struct Desk {
+    pub(crate) table: Table,
     // How many bytes, or entries of a list, each lent output has.
     pub(crate) room: usize,
     // How many bytes of the page wait to be written out.
     pub(crate) used: usize,
+    // The number of the line that is obeyed, from 1 on.
+    pub(crate) line: u64,
 }
 
-// The desk after a command, or what was wrong with its line.
-pub(crate) enum Outcome {
-    Done(Desk),
-    Wrong(Fault),
+pub(crate) fn no_rows() -> Table {
+    Table {
+        rows: 0,
+        serials: [0u32; MOST_ROWS],
+        addresses: [0u8; MOST_ROWS],
+        marks: [0u8; MOST_ROWS],
+    }
+}
+
+impl Table {
+    pub(crate) fn with_marks(self, marks: [u8; MOST_ROWS]) -> Table {
+        let serials = self.serials;
+        let addresses = self.addresses;
+        Table {
+            rows: self.rows,
+            serials,
+            addresses,
+            marks,
+        }
+    }
 }
 
 pub(crate) fn new() -> Desk {
+    let table = no_rows();
     Desk {
-        rows: 0,
+        table,
         room: FULL,
         used: 0,
-    }
-}
-
-pub(crate) fn wrong(what: What, at: usize) -> Outcome {
-    Outcome::Wrong(fault_at(what, at))
-}
-
-// A word stands behind what the command takes.
-pub(crate) fn extra(line: &[u8], at: usize) -> Outcome {
-    let w = word::next(line, at);
-    wrong(What::Extra, w.from)
-}
-
-// `room` alone is the full size again; with a number each lent output has that many bytes.
-pub(crate) fn room(line: &[u8], at: usize, d: Desk, page: &mut [u8]) -> Outcome {
-    if !word::more(line, at) {
-        return d.with_room(FULL).said(say::text(page, d.used, b"ok\n"));
-    }
-    let read = word::last_number(line, at, MOST_ROOM);
-    match read {
-        NumberRead::Wrong(why) => Outcome::Wrong(why),
-        NumberRead::Number(n) => d.with_room(n as usize)
-            .said(say::text(page, d.used, b"ok\n")),
+        line: 1,
     }
 }
 
 impl Desk {
-    pub(crate) fn with_used(self, used: usize) -> Desk {
-        Desk {
-            rows: self.rows,
-            room: self.room,
-            used,
-        }
+    pub(crate) fn with_used(mut self, used: usize) -> Desk {
+        self.used = used;
+        self
     }
 
-    pub(crate) fn with_rows(self, rows: usize) -> Desk {
+    pub(crate) fn with_room(mut self, room: usize) -> Desk {
+        self.room = room;
+        self
+    }
+
+    pub(crate) fn with_table(self, table: Table) -> Desk {
         Desk {
-            rows,
+            table,
             room: self.room,
             used: self.used,
+            line: self.line,
         }
     }
 
-    pub(crate) fn with_room(self, room: usize) -> Desk {
-        Desk {
-            rows: self.rows,
-            room,
-            used: self.used,
-        }
+    // The line is done.
+    pub(crate) fn past_line(mut self) -> Desk {
+        self.line = fault::one_more(self.line);
+        self
     }
 
-    // The command is done, and this much of the page is used.
-    pub(crate) fn said(self, used: usize) -> Outcome {
-        Outcome::Done(self.with_used(used))
+    // Says what was wrong with the line.
+    pub(crate) fn wrong(self, page: &mut [u8], why: Fault) -> Desk {
+        self.with_used(fault::say_fault(why, self.line, page, self.used))
+    }
+
+    // Says what was wrong at this place of the line.
+    pub(crate) fn wrong_at(self, page: &mut [u8], what: What, at: usize) -> Desk {
+        self.wrong(page, fault::fault_at(what, at))
     }
 }

@@ -1,111 +1,30 @@
 // The tool's table, and the devices' side of a scan over it. Each call of the library is lent the
 // rows that the table has.
+use crate::commands::ok;
 use crate::desk::Desk;
 use crate::desk::FILL;
 use crate::desk::FULL;
-use crate::desk::Outcome;
-use crate::desk::extra;
-use crate::desk::wrong;
+use crate::desk::MOST_ROOM;
+use crate::desk::MOST_ROWS;
+use crate::desk::Table;
 use crate::fault::Fault;
 use crate::fault::What;
 use crate::hex;
 use crate::hex::BytesRead;
-use crate::hex::DigitsRead;
+use crate::number::NumberRead;
+use crate::number::digits;
+use crate::number::fault_of;
+use crate::number::last_number;
 use crate::part::lent;
 use crate::part::lent_serials;
 use crate::part::serials_of;
 use crate::part::start_of;
 use crate::say;
-use crate::word;
-use crate::word::NumberRead;
-use devices::Answer;
+use devices::Response;
 use devices::Scanned;
-
-// The rows that the tool's table has room for.
-pub(crate) const MOST_ROWS: usize = 256;
 
 // A mark of any byte can be tried.
 const MOST_MARK: u64 = 255;
-
-// The lists of a whole scan have at most as many entries as `room` can say.
-const LIST: usize = 8192;
-
-pub(crate) enum DeviceCommand {
-    Device,
-    Forget,
-    Table,
-    Start,
-    Continue,
-    Offer,
-    Scan,
-    Another,
-}
-
-pub(crate) fn named(name: &[u8]) -> DeviceCommand {
-    if word::same(name, b"device") {
-        return DeviceCommand::Device;
-    }
-    if word::same(name, b"forget") {
-        return DeviceCommand::Forget;
-    }
-    if word::same(name, b"table") {
-        return DeviceCommand::Table;
-    }
-    if word::same(name, b"start") {
-        return DeviceCommand::Start;
-    }
-    if word::same(name, b"continue") {
-        return DeviceCommand::Continue;
-    }
-    if word::same(name, b"offer") {
-        return DeviceCommand::Offer;
-    }
-    if word::same(name, b"scan") {
-        return DeviceCommand::Scan;
-    }
-    DeviceCommand::Another
-}
-
-pub(crate) fn run(
-    command: DeviceCommand,
-    line: &[u8],
-    at: usize,
-    d: Desk,
-    page: &mut [u8],
-    serials: &mut [u32],
-    addresses: &mut [u8],
-    marks: &mut [u8],
-) -> Outcome {
-    match command {
-        DeviceCommand::Device => device(line, at, d, page, serials, addresses, marks),
-        DeviceCommand::Offer => offer(line, at, d, page, serials, addresses, marks),
-        DeviceCommand::Scan => scan(line, at, d, page, serials, addresses, marks),
-        _ => {
-            if word::more(line, at) {
-                return extra(line, at);
-            }
-            alone(command, d, page, serials, addresses, marks)
-        }
-    }
-}
-
-// A command that takes no word.
-fn alone(
-    command: DeviceCommand,
-    d: Desk,
-    page: &mut [u8],
-    serials: &[u32],
-    addresses: &[u8],
-    marks: &mut [u8],
-) -> Outcome {
-    match command {
-        DeviceCommand::Forget => d.with_rows(0).said(say::text(page, d.used, b"ok\n")),
-        DeviceCommand::Table => d.said(show(d, page, serials, addresses, marks)),
-        DeviceCommand::Start => d.said(start(d, page, serials, addresses, marks)),
-        DeviceCommand::Continue => d.said(resume(d, page, serials, addresses, marks)),
-        _ => Outcome::Done(d),
-    }
-}
 
 // ---- the table
 
@@ -116,83 +35,68 @@ enum RowRead {
 }
 
 fn read_row(line: &[u8], at: usize) -> RowRead {
-    let first = hex::digits(line, at, 8);
-    let DigitsRead::Digits(serial, second_at) = first else {
-        return RowRead::Wrong(hex::fault_of(first));
+    let first = digits(line, at, 8);
+    let NumberRead::Number(serial, second_at) = first else {
+        return RowRead::Wrong(fault_of(first));
     };
-    let second = hex::digits(line, second_at, 2);
-    let DigitsRead::Digits(address, third_at) = second else {
-        return RowRead::Wrong(hex::fault_of(second));
+    let second = digits(line, second_at, 2);
+    let NumberRead::Number(address, third_at) = second else {
+        return RowRead::Wrong(fault_of(second));
     };
-    let third = word::last_number(line, third_at, MOST_MARK);
-    match third {
-        NumberRead::Wrong(why) => RowRead::Wrong(why),
-        NumberRead::Number(mark) => RowRead::Row {
-            serial,
-            address: (address % 256) as u8,
-            mark: (mark % 256) as u8,
-        },
+    let third = last_number(line, third_at, MOST_MARK);
+    let NumberRead::Number(mark, _) = third else {
+        return RowRead::Wrong(fault_of(third));
+    };
+    RowRead::Row {
+        serial: (serial % 0x100000000) as u32,
+        address: (address % 256) as u8,
+        mark: (mark % 256) as u8,
     }
 }
 
-fn device(
-    line: &[u8],
-    at: usize,
-    d: Desk,
-    page: &mut [u8],
-    serials: &mut [u32],
-    addresses: &mut [u8],
-    marks: &mut [u8],
-) -> Outcome {
+pub(crate) fn device(line: &[u8], at: usize, d: Desk, page: &mut [u8]) -> Desk {
     let read = read_row(line, at);
     match read {
-        RowRead::Wrong(why) => Outcome::Wrong(why),
+        RowRead::Wrong(why) => d.wrong(page, why),
         RowRead::Row {
             serial,
             address,
             mark,
         } => {
-            let row = d.rows;
+            let table = d.table;
+            let row = table.rows;
             if MOST_ROWS <= row {
-                return wrong(What::TableFull, at);
+                return d.wrong_at(page, What::TableFull, at);
             }
-            put(row, serial, address, mark, serials, addresses, marks);
-            d.with_rows(row + 1).said(say::text(page, d.used, b"ok\n"))
+            let mut serials = table.serials;
+            let mut addresses = table.addresses;
+            let mut marks = table.marks;
+            serials[row] = serial;
+            addresses[row] = address;
+            marks[row] = mark;
+            let longer = Table {
+                rows: row + 1,
+                serials,
+                addresses,
+                marks,
+            };
+            ok(d.with_table(longer), page)
         }
     }
 }
 
-// Puts a row in its place.
-fn put(
-    row: usize,
-    serial: u32,
-    address: u8,
-    mark: u8,
-    serials: &mut [u32],
-    addresses: &mut [u8],
-    marks: &mut [u8],
-) {
-    if serials.len() <= row {
-        return;
-    }
-    if addresses.len() <= row {
-        return;
-    }
-    if marks.len() <= row {
-        return;
-    }
-    serials[row] = serial;
-    addresses[row] = address;
-    marks[row] = mark;
-}
-
-fn show(d: Desk, page: &mut [u8], serials: &[u32], addresses: &[u8], marks: &[u8]) -> usize {
-    let s = serials_of(serials, d.rows);
-    let a = start_of(addresses, d.rows);
-    let m = start_of(marks, d.rows);
-    let n = say::decimal(page, d.used, d.rows as u64);
+pub(crate) fn show(d: Desk, page: &mut [u8]) -> Desk {
+    let table = d.table;
+    let rows = table.rows;
+    let serials = table.serials;
+    let addresses = table.addresses;
+    let marks = table.marks;
+    let s = serials_of(&serials, rows);
+    let a = start_of(&addresses, rows);
+    let m = start_of(&marks, rows);
+    let n = say::decimal(page, d.used, rows as u64);
     let head = say_valid(table::valid(s, a, m), page, n);
-    say_rows(s, a, m, page, head)
+    d.with_used(say_rows(rows, s, a, m, page, head))
 }
 
 fn say_valid(valid: bool, page: &mut [u8], used: usize) -> usize {
@@ -202,29 +106,52 @@ fn say_valid(valid: bool, page: &mut [u8], used: usize) -> usize {
     say::text(page, used, b" devices, not valid\n")
 }
 
+// The first n rows.
 fn say_rows(
+    n: usize,
     serials: &[u32],
     addresses: &[u8],
     marks: &[u8],
     page: &mut [u8],
     used: usize,
 ) -> usize {
-    let mut n = used;
+    let mut at = used;
     let mut i = 0;
-    while i < serials.len() {
-        if addresses.len() <= i {
-            return n;
-        }
-        if marks.len() <= i {
-            return n;
-        }
-        n = say_row(serials[i], addresses[i], marks[i], page, n);
+    while i < n {
+        at = say_row(i, serials, addresses, marks, page, at);
         i += 1;
     }
-    n
+    at
 }
 
-fn say_row(serial: u32, address: u8, mark: u8, page: &mut [u8], used: usize) -> usize {
+// A row of the table has a mark. A device that a scan found has none.
+fn say_row(
+    i: usize,
+    serials: &[u32],
+    addresses: &[u8],
+    marks: &[u8],
+    page: &mut [u8],
+    used: usize,
+) -> usize {
+    if serials.len() <= i {
+        return used;
+    }
+    if addresses.len() <= i {
+        return used;
+    }
+    if marks.len() <= i {
+        return say_found(serials[i], addresses[i], page, used);
+    }
+    say_marked(serials[i], addresses[i], marks[i], page, used)
+}
+
+fn say_found(serial: u32, address: u8, page: &mut [u8], used: usize) -> usize {
+    let a = say::text(page, used, b"  found ");
+    let b = say::device(page, a, serial, address);
+    say::text(page, b, b"\n")
+}
+
+fn say_marked(serial: u32, address: u8, mark: u8, page: &mut [u8], used: usize) -> usize {
     let a = say::text(page, used, b"  ");
     let b = say::device(page, a, serial, address);
     let c = say::text(page, b, b" mark ");
@@ -234,117 +161,96 @@ fn say_row(serial: u32, address: u8, mark: u8, page: &mut [u8], used: usize) -> 
 
 // ---- requests
 
-fn start(d: Desk, page: &mut [u8], serials: &[u32], addresses: &[u8], marks: &mut [u8]) -> usize {
-    let mut answer = [FILL; FULL];
-    let a = devices::start(
-        serials_of(serials, d.rows),
-        start_of(addresses, d.rows),
-        lent(marks, d.rows),
-        lent(&mut answer, d.room),
-    );
-    say_answer(a, &answer, page, d.used)
+// What the devices are asked: a request, or a raw frame.
+pub(crate) enum Asked {
+    Start,
+    Continue,
+    Frame,
 }
 
-fn resume(d: Desk, page: &mut [u8], serials: &[u32], addresses: &[u8], marks: &mut [u8]) -> usize {
+pub(crate) fn ask(asked: Asked, frame: &[u8], d: Desk, page: &mut [u8]) -> Desk {
     let mut answer = [FILL; FULL];
-    let a = devices::resume(
-        serials_of(serials, d.rows),
-        start_of(addresses, d.rows),
-        lent(marks, d.rows),
+    let table = d.table;
+    let rows = table.rows;
+    let serials = table.serials;
+    let addresses = table.addresses;
+    let mut marks = table.marks;
+    let a = response(
+        asked,
+        frame,
+        serials_of(&serials, rows),
+        start_of(&addresses, rows),
+        lent(&mut marks, rows),
         lent(&mut answer, d.room),
     );
-    say_answer(a, &answer, page, d.used)
+    let used = say_answer(a, &answer, page, d.used);
+    d.with_table(table.with_marks(marks)).with_used(used)
 }
 
-fn offer(
-    line: &[u8],
-    at: usize,
-    d: Desk,
-    page: &mut [u8],
-    serials: &[u32],
-    addresses: &[u8],
-    marks: &mut [u8],
-) -> Outcome {
+pub(crate) fn offer(line: &[u8], at: usize, d: Desk, page: &mut [u8]) -> Desk {
     let mut store = [0u8; hex::MOST];
     let read = hex::bytes(line, at, &mut store);
     match read {
-        BytesRead::Wrong(why) => Outcome::Wrong(why),
-        BytesRead::Bytes(n) => {
-            d.said(offered(start_of(&store, n), d, page, serials, addresses, marks))
-        }
+        BytesRead::Bytes(n) => ask(Asked::Frame, start_of(&store, n), d, page),
+        BytesRead::Wrong(why) => d.wrong(page, why),
     }
 }
 
-fn offered(
+fn response(
+    asked: Asked,
     frame: &[u8],
-    d: Desk,
-    page: &mut [u8],
     serials: &[u32],
     addresses: &[u8],
     marks: &mut [u8],
-) -> usize {
-    let mut answer = [FILL; FULL];
-    let a = devices::offer(
-        frame,
-        serials_of(serials, d.rows),
-        start_of(addresses, d.rows),
-        lent(marks, d.rows),
-        lent(&mut answer, d.room),
-    );
-    say_answer(a, &answer, page, d.used)
+    answer: &mut [u8],
+) -> Response {
+    match asked {
+        Asked::Start => devices::start(serials, addresses, marks, answer),
+        Asked::Continue => devices::resume(serials, addresses, marks, answer),
+        Asked::Frame => devices::offer(frame, serials, addresses, marks, answer),
+    }
 }
 
-fn say_answer(a: Answer, answer: &[u8], page: &mut [u8], used: usize) -> usize {
+fn say_answer(a: Response, answer: &[u8], page: &mut [u8], used: usize) -> usize {
     match a {
-        Answer::Answered(n) => {
+        Response::Answered(n) => {
             let b = say::text(page, used, b"answer");
             let c = say::bytes(page, b, start_of(answer, n));
             say::text(page, c, b"\n")
         }
-        Answer::Silent => say::text(page, used, b"silence\n"),
-        Answer::Refused(why) => say::refused(page, used, why),
+        Response::Silent => say::text(page, used, b"silence\n"),
+        Response::Refused(why) => say::refused(page, used, why),
     }
 }
 
 // ---- a whole scan
 
-fn scan(
-    line: &[u8],
-    at: usize,
-    d: Desk,
-    page: &mut [u8],
-    serials: &[u32],
-    addresses: &[u8],
-    marks: &mut [u8],
-) -> Outcome {
-    let read = word::last_number(line, at, u64::MAX);
+pub(crate) fn scan(line: &[u8], at: usize, d: Desk, page: &mut [u8]) -> Desk {
+    let read = last_number(line, at, u64::MAX);
     match read {
-        NumberRead::Wrong(why) => Outcome::Wrong(why),
-        NumberRead::Number(cap) => {
-            d.said(scanned(cap as usize, d, page, serials, addresses, marks))
-        }
+        NumberRead::Wrong(why) => d.wrong(page, why),
+        NumberRead::Number(cap, _) => scanned(cap as usize, d, page),
     }
 }
 
-fn scanned(
-    cap: usize,
-    d: Desk,
-    page: &mut [u8],
-    serials: &[u32],
-    addresses: &[u8],
-    marks: &mut [u8],
-) -> usize {
-    let mut found_serials = [0x5A5A5A5Au32; LIST];
-    let mut found_addresses = [FILL; LIST];
+fn scanned(cap: usize, d: Desk, page: &mut [u8]) -> Desk {
+    let mut found_serials = [0x5A5A5A5Au32; MOST_ROOM];
+    let mut found_addresses = [FILL; MOST_ROOM];
+    let table = d.table;
+    let rows = table.rows;
+    let serials = table.serials;
+    let addresses = table.addresses;
+    let mut marks = table.marks;
     let s = devices::scan(
-        serials_of(serials, d.rows),
-        start_of(addresses, d.rows),
-        lent(marks, d.rows),
+        serials_of(&serials, rows),
+        start_of(&addresses, rows),
+        lent(&mut marks, rows),
         lent_serials(&mut found_serials, d.room),
         lent(&mut found_addresses, d.room),
         cap,
     );
-    say_scan(s, &found_serials, &found_addresses, page, d.used)
+    let used = say_scan(s, &found_serials, &found_addresses, page, d.used);
+    d.with_table(table.with_marks(marks)).with_used(used)
 }
 
 // A complete scan has heard one device fewer than it sent requests: the last was answered by the
@@ -352,53 +258,21 @@ fn scanned(
 fn say_scan(s: Scanned, serials: &[u32], addresses: &[u8], page: &mut [u8], used: usize) -> usize {
     match s {
         Scanned::Complete(n) => {
-            let a = say::text(page, used, b"Complete, ");
-            let b = say_requests(n, page, a);
+            let a = say_requests(b"Complete, ", n, page, used);
             let heard = if n == 0 { 0 } else { n - 1 };
-            say_heard(heard, serials, addresses, page, b)
+            say_rows(heard, serials, addresses, b"", page, a)
         }
-        Scanned::Nobody(n) => {
-            let a = say::text(page, used, b"Nobody, ");
-            say_requests(n, page, a)
-        }
+        Scanned::Nobody(n) => say_requests(b"Nobody, ", n, page, used),
         Scanned::Unfinished(n) => {
-            let a = say::text(page, used, b"Unfinished, ");
-            let b = say_requests(n, page, a);
-            say_heard(n, serials, addresses, page, b)
+            let a = say_requests(b"Unfinished, ", n, page, used);
+            say_rows(n, serials, addresses, b"", page, a)
         }
         Scanned::Refused(why) => say::refused(page, used, why),
     }
 }
 
-fn say_requests(n: usize, page: &mut [u8], used: usize) -> usize {
-    let a = say::decimal(page, used, n as u64);
-    say::text(page, a, b" requests\n")
-}
-
-fn say_heard(
-    heard: usize,
-    serials: &[u32],
-    addresses: &[u8],
-    page: &mut [u8],
-    used: usize,
-) -> usize {
-    let mut n = used;
-    let mut i = 0;
-    while i < heard {
-        if serials.len() <= i {
-            return n;
-        }
-        if addresses.len() <= i {
-            return n;
-        }
-        n = say_found(serials[i], addresses[i], page, n);
-        i += 1;
-    }
-    n
-}
-
-fn say_found(serial: u32, address: u8, page: &mut [u8], used: usize) -> usize {
-    let a = say::text(page, used, b"  found ");
-    let b = say::device(page, a, serial, address);
-    say::text(page, b, b"\n")
+fn say_requests(ended: &[u8], n: usize, page: &mut [u8], used: usize) -> usize {
+    let a = say::text(page, used, ended);
+    let b = say::decimal(page, a, n as u64);
+    say::text(page, b, b" requests\n")
 }

@@ -1,12 +1,14 @@
 // The commands of eBUS. Each is one call of the library.
+use crate::commands::extra;
 use crate::desk::Desk;
 use crate::desk::FILL;
 use crate::desk::FULL;
-use crate::desk::Outcome;
-use crate::desk::extra;
+use crate::fault::Fault;
 use crate::hex;
 use crate::hex::BytesRead;
-use crate::hex::DigitsRead;
+use crate::number::NumberRead;
+use crate::number::digits;
+use crate::number::fault_of;
 use crate::part::lent;
 use crate::part::start_of;
 use crate::say;
@@ -14,113 +16,42 @@ use crate::word;
 use ebus::address::ExchangeKind;
 use exchange::judge::Judged;
 
-pub(crate) enum EbusCommand {
-    Check,
-    Expand,
-    Undo,
-    Kind,
-    Judge,
-    WriteCommand,
-    WriteReply,
-    Another,
-}
-
-pub(crate) fn named(name: &[u8]) -> EbusCommand {
-    if word::same(name, b"ebus-check") {
-        return EbusCommand::Check;
-    }
-    if word::same(name, b"expand") {
-        return EbusCommand::Expand;
-    }
-    if word::same(name, b"undo") {
-        return EbusCommand::Undo;
-    }
-    if word::same(name, b"kind") {
-        return EbusCommand::Kind;
-    }
-    if word::same(name, b"judge") {
-        return EbusCommand::Judge;
-    }
-    if word::same(name, b"write-command") {
-        return EbusCommand::WriteCommand;
-    }
-    if word::same(name, b"write-reply") {
-        return EbusCommand::WriteReply;
-    }
-    EbusCommand::Another
-}
-
-pub(crate) fn run(
-    command: EbusCommand,
-    line: &[u8],
-    at: usize,
-    d: Desk,
-    page: &mut [u8],
-) -> Outcome {
-    match command {
-        EbusCommand::Kind => kind(line, at, d, page),
-        EbusCommand::WriteCommand => write_command(line, at, d, page),
-        _ => on_bytes(command, line, at, d, page),
-    }
-}
-
-// A command on the bytes that the rest of the line is.
-fn on_bytes(command: EbusCommand, line: &[u8], at: usize, d: Desk, page: &mut [u8]) -> Outcome {
-    let mut store = [0u8; hex::MOST];
-    let read = hex::bytes(line, at, &mut store);
-    match read {
-        BytesRead::Bytes(n) => d.said(call(command, start_of(&store, n), d, page)),
-        BytesRead::Wrong(why) => Outcome::Wrong(why),
-    }
-}
-
-fn call(command: EbusCommand, input: &[u8], d: Desk, page: &mut [u8]) -> usize {
-    match command {
-        EbusCommand::Check => check(input, d, page),
-        EbusCommand::Expand => expand(input, d, page),
-        EbusCommand::Undo => undo(input, d, page),
-        EbusCommand::Judge => judge(input, d, page),
-        EbusCommand::WriteReply => write_reply(input, d, page),
-        _ => d.used,
-    }
-}
-
-fn check(input: &[u8], d: Desk, page: &mut [u8]) -> usize {
-    let byte = crc::ebus_check(input);
-    let a = say::text(page, d.used, b"check ");
+pub(crate) fn check(input: &[u8], page: &mut [u8], used: usize) -> usize {
+    let byte = ebus::check::ebus_check(input);
+    let a = say::text(page, used, b"check ");
     let b = say::hex(page, a, byte);
     say::text(page, b, b"\n")
 }
 
-fn expand(input: &[u8], d: Desk, page: &mut [u8]) -> usize {
+pub(crate) fn expand(input: &[u8], room: usize, page: &mut [u8], used: usize) -> usize {
     let mut out = [FILL; FULL];
-    let w = ebus::escape::expand(input, lent(&mut out, d.room));
-    say::written(page, d.used, w, &out)
+    let w = ebus::escape::expand(input, lent(&mut out, room));
+    say::written(page, used, w, &out)
 }
 
-fn undo(input: &[u8], d: Desk, page: &mut [u8]) -> usize {
+pub(crate) fn undo(input: &[u8], room: usize, page: &mut [u8], used: usize) -> usize {
     let mut out = [FILL; FULL];
-    let w = ebus::escape::undo(input, lent(&mut out, d.room));
-    say::written(page, d.used, w, &out)
+    let w = ebus::escape::undo(input, lent(&mut out, room));
+    say::written(page, used, w, &out)
 }
 
-fn write_reply(input: &[u8], d: Desk, page: &mut [u8]) -> usize {
+pub(crate) fn write_reply(input: &[u8], room: usize, page: &mut [u8], used: usize) -> usize {
     let mut out = [FILL; FULL];
-    let w = ebus::write::write_reply(input, lent(&mut out, d.room));
-    say::written(page, d.used, w, &out)
+    let w = exchange::write::write_reply(input, lent(&mut out, room));
+    say::written(page, used, w, &out)
 }
 
-fn kind(line: &[u8], at: usize, d: Desk, page: &mut [u8]) -> Outcome {
-    let read = hex::digits(line, at, 2);
+pub(crate) fn kind(line: &[u8], at: usize, d: Desk, page: &mut [u8]) -> Desk {
+    let read = digits(line, at, 2);
     match read {
-        DigitsRead::Wrong(why) => Outcome::Wrong(why),
-        DigitsRead::Digits(value, next) => {
+        NumberRead::Wrong(why) => d.wrong(page, why),
+        NumberRead::Number(destination, next) => {
             if word::more(line, next) {
-                return extra(line, next);
+                return extra(line, next, d, page);
             }
-            let found = ebus::address::kind((value % 256) as u8);
+            let found = ebus::address::kind((destination % 256) as u8);
             let a = say_kind(found, page, d.used);
-            d.said(say::text(page, a, b"\n"))
+            d.with_used(say::text(page, a, b"\n"))
         }
     }
 }
@@ -135,24 +66,24 @@ fn say_kind(k: ExchangeKind, page: &mut [u8], used: usize) -> usize {
 
 // ---- the judge
 
-fn judge(run: &[u8], d: Desk, page: &mut [u8]) -> usize {
+pub(crate) fn judge(run: &[u8], room: usize, page: &mut [u8], used: usize) -> usize {
     let mut command = [FILL; FULL];
     let mut first = [FILL; FULL];
     let mut second = [FILL; FULL];
     let judged = exchange::judge::judge(
         run,
-        lent(&mut command, d.room),
-        lent(&mut first, d.room),
-        lent(&mut second, d.room),
+        lent(&mut command, room),
+        lent(&mut first, room),
+        lent(&mut second, room),
     );
     match judged {
-        Judged::Refused(why) => say::refused(page, d.used, why),
+        Judged::Refused(why) => say::refused(page, used, why),
         Judged::Accepted(kind, commands, replies, bytes) => {
-            let a = accepted(kind, commands, replies, bytes, page, d.used);
-            let b = telegram(b"  command", start_of(&command, d.room), 4, page, a);
+            let a = accepted(kind, commands, replies, bytes, page, used);
+            let b = telegram(b"  command", start_of(&command, room), 4, page, a);
             say_replies(
-                start_of(&first, d.room),
-                start_of(&second, d.room),
+                start_of(&first, room),
+                start_of(&second, room),
                 replies,
                 page,
                 b,
@@ -235,38 +166,72 @@ fn say_data<'a>(
 
 // ---- writing a command
 
-fn write_command(line: &[u8], at: usize, d: Desk, page: &mut [u8]) -> Outcome {
-    let first = hex::digits(line, at, 2);
-    let DigitsRead::Digits(source, second_at) = first else {
-        return Outcome::Wrong(hex::fault_of(first));
+// The four bytes before LEN, and where the data begins.
+enum HeadRead {
+    Head {
+        source: u8,
+        destination: u8,
+        primary: u8,
+        secondary: u8,
+        data_at: usize,
+    },
+    Wrong(Fault),
+}
+
+fn read_head(line: &[u8], at: usize) -> HeadRead {
+    let first = digits(line, at, 2);
+    let NumberRead::Number(source, second_at) = first else {
+        return HeadRead::Wrong(fault_of(first));
     };
-    let second = hex::digits(line, second_at, 2);
-    let DigitsRead::Digits(destination, third_at) = second else {
-        return Outcome::Wrong(hex::fault_of(second));
+    let second = digits(line, second_at, 2);
+    let NumberRead::Number(destination, third_at) = second else {
+        return HeadRead::Wrong(fault_of(second));
     };
-    let third = hex::digits(line, third_at, 2);
-    let DigitsRead::Digits(primary, fourth_at) = third else {
-        return Outcome::Wrong(hex::fault_of(third));
+    let third = digits(line, third_at, 2);
+    let NumberRead::Number(primary, fourth_at) = third else {
+        return HeadRead::Wrong(fault_of(third));
     };
-    let fourth = hex::digits(line, fourth_at, 2);
-    let DigitsRead::Digits(secondary, data_at) = fourth else {
-        return Outcome::Wrong(hex::fault_of(fourth));
+    let fourth = digits(line, fourth_at, 2);
+    let NumberRead::Number(secondary, data_at) = fourth else {
+        return HeadRead::Wrong(fault_of(fourth));
     };
-    let mut store = [0u8; hex::MOST];
-    let read = hex::bytes(line, data_at, &mut store);
-    match read {
-        BytesRead::Wrong(why) => Outcome::Wrong(why),
-        BytesRead::Bytes(n) => {
-            let mut out = [FILL; FULL];
-            let w = ebus::write::write_command(
-                (source % 256) as u8,
-                (destination % 256) as u8,
-                (primary % 256) as u8,
-                (secondary % 256) as u8,
-                start_of(&store, n),
-                lent(&mut out, d.room),
-            );
-            d.said(say::written(page, d.used, w, &out))
+    HeadRead::Head {
+        source: (source % 256) as u8,
+        destination: (destination % 256) as u8,
+        primary: (primary % 256) as u8,
+        secondary: (secondary % 256) as u8,
+        data_at,
+    }
+}
+
+pub(crate) fn write_command(line: &[u8], at: usize, d: Desk, page: &mut [u8]) -> Desk {
+    let head = read_head(line, at);
+    match head {
+        HeadRead::Wrong(why) => d.wrong(page, why),
+        HeadRead::Head {
+            source,
+            destination,
+            primary,
+            secondary,
+            data_at,
+        } => {
+            let mut store = [0u8; hex::MOST];
+            let read = hex::bytes(line, data_at, &mut store);
+            match read {
+                BytesRead::Wrong(why) => d.wrong(page, why),
+                BytesRead::Bytes(n) => {
+                    let mut out = [FILL; FULL];
+                    let w = exchange::write::write_command(
+                        source,
+                        destination,
+                        primary,
+                        secondary,
+                        start_of(&store, n),
+                        lent(&mut out, d.room),
+                    );
+                    d.with_used(say::written(page, d.used, w, &out))
+                }
+            }
         }
     }
 }

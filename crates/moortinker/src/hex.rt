@@ -1,10 +1,10 @@
-// Bytes and short numbers in hexadecimal.
+// Bytes in hexadecimal.
 use crate::fault::Fault;
 use crate::fault::What;
 use crate::fault::fault_at;
+use crate::number::digit;
 use crate::word;
 ghost use Prim.Native.Nat.{_≤_};
-ghost use lib.ListN.{length};
 
 // The most bytes that a line holds.
 pub(crate) const MOST: usize = 8192;
@@ -13,24 +13,6 @@ pub(crate) const MOST: usize = 8192;
 pub(crate) enum BytesRead {
     Bytes(usize),
     Wrong(Fault),
-}
-
-// The value of a word of digits and where the rest of the line begins, or what was wrong.
-pub(crate) enum DigitsRead {
-    Digits(u32, usize),
-    Wrong(Fault),
-}
-
-// The value of a digit, or 16 where it is none.
-pub(crate) fn digit(b: u8) -> u8
-    ensures { λ r. ⌜ r ≤ 16 ⌝ }
-{
-    match b {
-        b'0'..=b'9' => b - 48,
-        b'A'..=b'F' => b - 55,
-        b'a'..=b'f' => b - 87,
-        _ => 16,
-    }
 }
 
 // What is wrong with the second digit of a byte: it is missing, or it is none.
@@ -78,43 +60,4 @@ pub(crate) fn bytes(line: &[u8], at: usize, out: &mut [u8]) -> BytesRead {
         i += 2;
     }
     BytesRead::Bytes(n)
-}
-
-// The value of the digits from `from` to `to`, of which there are at most eight.
-fn value(line: &[u8], from: usize, to: usize) -> DigitsRead
-    requires { ⌜ to ≤ length (now line) ⌝ }
-{
-    let mut sum: u32 = 0;
-    let mut i = from;
-    while i < to {
-        let d = digit(line[i]);
-        if 15 < d {
-            return DigitsRead::Wrong(fault_at(What::NotHex, i));
-        }
-        sum = (sum % 0x10000000) * 16 + d as u32;
-        i += 1;
-    }
-    DigitsRead::Digits(sum, to)
-}
-
-// The next word from `at` on, of one digit to `most`, where `most` is at most 8.
-pub(crate) fn digits(line: &[u8], at: usize, most: usize) -> DigitsRead {
-    let w = word::next(line, at);
-    let from = w.from;
-    let to = w.to;
-    if from == to {
-        return DigitsRead::Wrong(fault_at(What::Missing, from));
-    }
-    if most < to - from {
-        return DigitsRead::Wrong(fault_at(What::TooManyDigits, from));
-    }
-    value(line, from, to)
-}
-
-// What was wrong with a word of digits.
-pub(crate) fn fault_of(read: DigitsRead) -> Fault {
-    match read {
-        DigitsRead::Digits(_, at) => fault_at(What::NotHex, at),
-        DigitsRead::Wrong(why) => why,
-    }
 }

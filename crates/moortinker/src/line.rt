@@ -2,7 +2,6 @@
 //
 // The input buffer holds what was read and not yet obeyed. A line that does not fit into it is
 // passed over to its end.
-use crate::fault::one_more;
 use libc::STDIN_FILENO;
 ghost use Prim.Native.Nat.{_≤_};
 ghost use lib.ListN.{length};
@@ -11,9 +10,7 @@ pub(crate) struct Window {
     // The bytes of the input buffer from `from` to `to` are still to be obeyed.
     pub(crate) from: usize,
     pub(crate) to: usize,
-    // The number of the line that they begin, from 1 on.
-    pub(crate) number: u64,
-    // Whether that line was too long and its rest is passed over.
+    // Whether the line that they begin was too long and its rest is passed over.
     pub(crate) skipping: bool,
 }
 
@@ -21,7 +18,6 @@ pub(crate) fn new() -> Window {
     Window {
         from: 0,
         to: 0,
-        number: 1,
         skipping: false,
     }
 }
@@ -37,7 +33,6 @@ impl Window {
         Window {
             from,
             to: self.to,
-            number: one_more(self.number),
             skipping: false,
         }
     }
@@ -47,7 +42,6 @@ impl Window {
         Window {
             from: 0,
             to,
-            number: self.number,
             skipping: self.skipping,
         }
     }
@@ -57,7 +51,6 @@ impl Window {
         Window {
             from: 0,
             to: 0,
-            number: self.number,
             skipping: true,
         }
     }

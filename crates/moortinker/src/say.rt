@@ -1,6 +1,7 @@
 // The page: answers are collected here, and written out when it is full or before more input is
 // read. Each function puts something behind the bytes used so far and answers how many are used
 // then.
+use crate::names;
 use crate::part::start_of;
 use libc::STDOUT_FILENO;
 use refusal::Refusal;
@@ -80,51 +81,6 @@ pub(crate) fn device(page: &mut [u8], used: usize, s: u32, address: u8) -> usize
     hex(page, b, address)
 }
 
-// The short name of a number: of lent outputs, the table and escapes,
-fn name(page: &mut [u8], used: usize, number: u8) -> usize {
-    match number {
-        refusal::OUTPUT_SHORT => text(page, used, b"output too short"),
-        refusal::TABLE_NOT_VALID => text(page, used, b"table not valid"),
-        refusal::RUN_ENDED => text(page, used, b"run ended"),
-        refusal::ESCAPE_WRONG => text(page, used, b"wrong escape"),
-        refusal::SYN_EARLY => text(page, used, b"SYN too early"),
-        _ => telegram_name(page, used, number),
-    }
-}
-
-// of a telegram,
-fn telegram_name(page: &mut [u8], used: usize, number: u8) -> usize {
-    match number {
-        refusal::SOURCE_WRONG => text(page, used, b"source no initiator"),
-        refusal::DESTINATION_WRONG => text(page, used, b"destination A9 or AA"),
-        refusal::LENGTH_OVER => text(page, used, b"LEN over 16"),
-        refusal::CHECK_WRONG => text(page, used, b"wrong check byte"),
-        _ => exchange_name(page, used, number),
-    }
-}
-
-// of an exchange,
-fn exchange_name(page: &mut [u8], used: usize, number: u8) -> usize {
-    match number {
-        refusal::COMMAND_NACKED => text(page, used, b"command NACKed twice"),
-        refusal::REPLY_NACKED => text(page, used, b"reply NACKed twice"),
-        refusal::BUS_ERROR => text(page, used, b"bus error"),
-        _ => frame_name(page, used, number),
-    }
-}
-
-// and of a Modbus frame.
-fn frame_name(page: &mut [u8], used: usize, number: u8) -> usize {
-    match number {
-        refusal::FRAME_LENGTH => text(page, used, b"wrong frame length"),
-        refusal::FRAME_HEAD => text(page, used, b"not FD 46"),
-        refusal::SUBCOMMAND_WRONG => text(page, used, b"wrong subcommand"),
-        refusal::FRAME_CHECK => text(page, used, b"wrong frame check"),
-        refusal::SERIAL_OVER => text(page, used, b"serial too large"),
-        _ => text(page, used, b"no name"),
-    }
-}
-
 pub(crate) fn refused(page: &mut [u8], used: usize, why: Refusal) -> usize {
     let a = text(page, used, b"refused ");
     let b = decimal(page, a, why.number as u64);
@@ -135,7 +91,7 @@ pub(crate) fn refused(page: &mut [u8], used: usize, why: Refusal) -> usize {
 
 fn bracketed(page: &mut [u8], used: usize, number: u8) -> usize {
     let a = text(page, used, b"  (");
-    let b = name(page, a, number);
+    let b = names::name(page, a, number);
     text(page, b, b")\n")
 }
 

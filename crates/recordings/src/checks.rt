@@ -1,14 +1,48 @@
 // The two checks on published values, and on every byte alone.
+//
+// A case is a line: the bytes, `=` and their check as it is sent.
+use crate::cases::Checked;
+use crate::cases::Lines;
+use crate::cases::cases;
+use crate::lines::read_field;
+use crate::lines::start;
 use crate::tally::Tally;
 use crate::tally::none;
 
+pub(crate) fn ebus_case(text: &[u8], at: usize) -> Checked {
+    let mut input = [0u8; 64];
+    let i = read_field(text, at, true, &mut input);
+    let mut due = [0u8; 1];
+    let d = read_field(text, i.next, true, &mut due);
+    Checked {
+        right: d.n == 1 && ebus::check::ebus_check(start(&input, i.n)) == due[0],
+        next: d.next,
+    }
+}
+
+pub(crate) fn modbus_case(text: &[u8], at: usize) -> Checked {
+    let mut input = [0u8; 64];
+    let i = read_field(text, at, true, &mut input);
+    let mut due = [0u8; 2];
+    let d = read_field(text, i.next, true, &mut due);
+    let check = crc::modbus_check(start(&input, i.n));
+    Checked {
+        right: d.n == 2 && (check % 256) as u8 == due[0] && (check / 256) as u8 == due[1],
+        next: d.next,
+    }
+}
+
 // Document 01's W1 to W4 and document 004's example, whose check byte is 42.
 pub(crate) fn ebus_published() -> Tally {
-    none().with(crc::ebus_check(b"\x10\x08\xB5\x11\x01\x01") == 0x89)
-        .with(crc::ebus_check(b"\xAA") == 0xEC)
-        .with(crc::ebus_check(b"\xA9") == 0xED)
-        .with(crc::ebus_check(b"") == 0x00)
-        .with(crc::ebus_check(b"\x10\x08\xB5\x04\x01\x7F") == 0x42)
+    cases(
+        Lines::EbusChecks,
+        b"10 08 B5 11 01 01 = 89
+AA = EC
+A9 = ED
+= 00
+10 08 B5 04 01 7F = 42
+",
+    )
 }
 
 // A lone byte is its own check byte, but for the two that are escaped.
@@ -21,34 +55,26 @@ pub(crate) fn ebus_alone() -> Tally {
             0xAA => 0xEC,
             _ => byte,
         };
-        t = t.with(crc::ebus_check(&[byte]) == expected);
+        t = t.with(ebus::check::ebus_check(&[byte]) == expected);
     }
     t
 }
 
-// Whether a frame ends with its own Modbus check, low byte first.
-fn closed(frame: &[u8]) -> bool {
-    if frame.len() < 2 {
-        return false;
-    }
-    let n = frame.len() - 2;
-    let check = crc::modbus_check(&frame[..n]);
-    frame[n] == (check % 256) as u8 && frame[n + 1] == (check / 256) as u8
-}
-
 // Document 000's whole frames, but for the 0x18 example, whose printed check is wrong; and the
-// check value that catalogues of CRCs give for Modbus.
+// check value that catalogues of CRCs give for Modbus, of the digits 1 to 9.
 pub(crate) fn modbus_published() -> Tally {
-    none().with(closed(b"\xFD\x46\x01\x13\x90"))
-        .with(closed(b"\xFD\x46\x02\x53\x91"))
-        .with(closed(b"\xFD\x46\x03\x00\x01\xEB\x37\x0C\xCE\xDC"))
-        .with(closed(b"\xFD\x46\x04\xD3\x93"))
-        .with(closed(b"\xFD\x46\x08\x00\x01\xEB\x37\x03\x00\xC8\x00\x14\x5B\x07"))
-        .with(closed(
-            b"\xFD\x46\x09\x00\x01\xEB\x37\x03\x28\x00\x57\x00\x42\x00\x4D\x00\x53\x00\x57\x00\x34\x00\x00\x00\x00\x00\x00\x00\x00\x00\x00\x00\x00\x00\x00\x00\x00\x00\x00\x00\x00\x00\x00\x00\x00\x00\x00\x00\x00\x30\x4F",
-        ))
-        .with(closed(b"\xFD\x46\x12\x52\x5D"))
-        .with(crc::modbus_check(b"123456789") == 0x4B37)
+    cases(
+        Lines::ModbusChecks,
+        b"FD 46 01 = 13 90
+FD 46 02 = 53 91
+FD 46 03 00 01 EB 37 0C = CE DC
+FD 46 04 = D3 93
+FD 46 08 00 01 EB 37 03 00 C8 00 14 = 5B 07
+FD 46 09 00 01 EB 37 03 28 00 57 00 42 00 4D 00 53 00 57 00 34 00 00 00 00 00 00 00 00 00 00 00 00 00 00 00 00 00 00 00 00 00 00 00 00 00 00 00 00 = 30 4F
+FD 46 12 = 52 5D
+31 32 33 34 35 36 37 38 39 = 37 4B
+",
+    )
 }
 
 // The Modbus check of one byte, bit by bit as the serial line standard describes it.

@@ -1,10 +1,19 @@
 // Expanding and undoing escapes: the bytes, the refusals, and the bytes that stay.
+//
+// A case is a line: the bytes, `=` and what they become, or `!` and the room that is lent with the
+// number and place of the refusal.
+use crate::cases::Checked;
+use crate::cases::Lines;
+use crate::cases::cases;
+use crate::lines::lent;
+use crate::lines::read_field;
+use crate::lines::start;
+use crate::lines::wide;
 use crate::tally::Tally;
-use crate::tally::none;
 use refusal::Written;
 
-// What stays untouched in the lent output is 5A.
-const FILL: u8 = 0x5A;
+// What stays untouched in a lent output is 5A.
+pub(crate) const FILL: u8 = 0x5A;
 
 // Whether the answer is this length.
 fn length_is(w: Written, expected: usize) -> bool {
@@ -38,69 +47,62 @@ pub(crate) fn holds(out: &[u8], expected: &[u8]) -> bool {
     right
 }
 
-fn expands(logical: &[u8], raw: &[u8]) -> bool {
-    let mut out = [FILL; 64];
-    let w = ebus::escape::expand(logical, &mut out);
-    length_is(w, raw.len()) && holds(&out, raw)
-}
-
-// Expanding into a part of the output.
-fn expand_within(logical: &[u8], out: &mut [u8], room: usize) -> Written {
-    if room <= out.len() {
-        ebus::escape::expand(logical, &mut out[..room])
-    } else {
-        ebus::escape::expand(logical, out)
+fn changed(undoing: bool, input: &[u8], out: &mut [u8]) -> Written {
+    if undoing {
+        return ebus::escape::undo(input, out);
     }
+    ebus::escape::expand(input, out)
 }
 
-fn expand_refused(logical: &[u8], room: usize) -> bool {
+pub(crate) fn case(undoing: bool, text: &[u8], at: usize) -> Checked {
+    let mut input = [0u8; 16];
+    let i = read_field(text, at, true, &mut input);
     let mut out = [FILL; 64];
-    let w = expand_within(logical, &mut out, room);
-    refused_is(w, 1, 0) && holds(&out, b"")
+    let mut due = [0u8; 16];
+    let d = read_field(text, i.next, i.mark == b'=', &mut due);
+    if i.mark == b'!' {
+        let w = changed(undoing, start(&input, i.n), lent(&mut out, wide(due[0])));
+        return Checked {
+            right: refused_is(w, due[1], wide(due[2])) && holds(&out, b""),
+            next: d.next,
+        };
+    }
+    let w = changed(undoing, start(&input, i.n), &mut out);
+    Checked {
+        right: length_is(w, d.n) && holds(&out, start(&due, d.n)),
+        next: d.next,
+    }
 }
 
 pub(crate) fn expanded() -> Tally {
-    none().with(expands(b"\xA9\xAA", b"\xA9\x00\xA9\x01"))
-        .with(expands(b"", b""))
-        .with(expands(b"\x10\x08\xB5\x11\x01\x01", b"\x10\x08\xB5\x11\x01\x01"))
-        .with(expands(b"\xAA", b"\xA9\x01"))
-        .with(expands(b"\xA8\xA9\xAB", b"\xA8\xA9\x00\xAB"))
-        .with(expand_refused(b"\xA9", 1))
-        .with(expand_refused(b"\x01", 0))
-        .with(expand_refused(b"\xA9\xAA", 3))
-}
-
-fn undoes(raw: &[u8], logical: &[u8]) -> bool {
-    let mut out = [FILL; 64];
-    let w = ebus::escape::undo(raw, &mut out);
-    length_is(w, logical.len()) && holds(&out, logical)
-}
-
-// Undoing into a part of the output.
-fn undo_within(raw: &[u8], out: &mut [u8], room: usize) -> Written {
-    if room <= out.len() {
-        ebus::escape::undo(raw, &mut out[..room])
-    } else {
-        ebus::escape::undo(raw, out)
-    }
-}
-
-fn undo_refused(raw: &[u8], room: usize, number: u8, place: usize) -> bool {
-    let mut out = [FILL; 64];
-    let w = undo_within(raw, &mut out, room);
-    refused_is(w, number, place) && holds(&out, b"")
+    cases(
+        Lines::Expanding,
+        b"A9 AA = A9 00 A9 01
+=
+10 08 B5 11 01 01 = 10 08 B5 11 01 01
+AA = A9 01
+A8 A9 AB = A8 A9 00 AB
+A9 ! 01 01 00
+01 ! 00 01 00
+A9 AA ! 03 01 00
+",
+    )
 }
 
 pub(crate) fn undone() -> Tally {
-    none().with(undoes(b"\xA9\x00\xA9\x01", b"\xA9\xAA"))
-        .with(undoes(b"", b""))
-        .with(undo_refused(b"\x10\xA9", 64, 3, 2))
-        .with(undo_refused(b"\xA9\x02", 64, 4, 1))
-        .with(undo_refused(b"\xA9\xA9", 64, 4, 1))
-        .with(undo_refused(b"\xA9\xAA", 64, 5, 1))
-        .with(undo_refused(b"\x01\xAA\x02", 64, 5, 1))
-        .with(undo_refused(b"\x01\x02\x03", 2, 1, 0))
-        .with(undo_refused(b"\x01\x02\x03\xA9\x55", 2, 4, 4))
-        .with(undo_refused(b"\x01\x02\xAA", 0, 5, 2))
-        .with(undo_refused(b"\x01\xA9", 0, 3, 2))
+    cases(
+        Lines::Undoing,
+        b"A9 00 A9 01 = A9 AA
+=
+10 A9 ! 64 03 02
+A9 02 ! 64 04 01
+A9 A9 ! 64 04 01
+A9 AA ! 64 05 01
+01 AA 02 ! 64 05 01
+01 02 03 ! 02 01 00
+01 02 03 A9 55 ! 02 04 04
+01 02 AA ! 00 05 02
+01 A9 ! 00 03 02
+",
+    )
 }

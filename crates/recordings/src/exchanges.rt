@@ -1,14 +1,22 @@
 // Recorded and made exchanges, each held to what it must give: the answer, the place, and what the
 // three buffers hold.
+//
+// A case is a line: the raw bytes, `=` and what their acceptance is, or `!` and the number and place
+// of their refusal. An acceptance is the kind (00 broadcast, 01 initiator/initiator, 02
+// initiator/target) and the attempts at command and reply, then what the three buffers start with.
+use crate::cases::Checked;
+use crate::cases::Lines;
+use crate::cases::cases;
+use crate::escapes::FILL;
 use crate::escapes::holds;
+use crate::lines::read_field;
+use crate::lines::start;
+use crate::lines::wide;
 use crate::tally::Tally;
 use crate::tally::none;
 use ebus::address::ExchangeKind;
 use exchange::judge::Judged;
 use exchange::judge::judge;
-
-// What stays untouched in a lent buffer is 5A.
-const FILL: u8 = 0x5A;
 
 // The kinds, as numbers to compare.
 const BROADCAST: u8 = 0;
@@ -74,363 +82,128 @@ fn refused(run: &[u8], number: u8, place: usize) -> bool {
     refused_as(j, number, place) && holds(&c, b"") && holds(&f, b"") && holds(&s, b"")
 }
 
-// W7 and W8, document 004's example and frames, SYN in a wait, and telegrams with A9 and AA.
+pub(crate) fn case(text: &[u8], at: usize) -> Checked {
+    let mut run = [0u8; 128];
+    let r = read_field(text, at, true, &mut run);
+    let mut due = [0u8; 3];
+    let d = read_field(text, r.next, false, &mut due);
+    if r.mark == b'!' {
+        return Checked {
+            right: refused(start(&run, r.n), due[0], wide(due[1])),
+            next: d.next,
+        };
+    }
+    let mut command = [0u8; 22];
+    let mut first = [0u8; 18];
+    let mut second = [0u8; 18];
+    let c = read_field(text, d.next, true, &mut command);
+    let f = read_field(text, c.next, true, &mut first);
+    let s = read_field(text, f.next, true, &mut second);
+    Checked {
+        right: accepted(
+            start(&run, r.n),
+            due[0],
+            due[1],
+            due[2],
+            r.n,
+            start(&command, c.n),
+            start(&first, f.n),
+            start(&second, s.n),
+        ),
+        next: s.next,
+    }
+}
+
+// W7 and W8, document 004's example and frames, SYN in a wait, telegrams with A9 and AA, and the
+// broadcast with both that ebusd is tested with.
 pub(crate) fn published() -> Tally {
-    none().with(accepted(
-            b"\x10\x08\xB5\x11\x01\x01\x89\x00\x01\x2A\xB1\x00\xAA",
-            TARGET,
-            1,
-            1,
-            13,
-            b"\x10\x08\xB5\x11\x01\x01\x89",
-            b"\x01\x2A\xB1",
-            b"",
-        ))
-        .with(refused(
-            b"\x10\x08\xB5\x11\x01\x01\x89\x55\x01\x2A\xB1\x00\xAA",
-            12,
-            7,
-        ))
-        .with(accepted(
-            b"\x10\x08\xB5\x04\x01\x7F\x42\x00\x01\x2A\xB1\x00\xAA",
-            TARGET,
-            1,
-            1,
-            13,
-            b"\x10\x08\xB5\x04\x01\x7F\x42",
-            b"\x01\x2A\xB1",
-            b"",
-        ))
-        .with(accepted(
-            b"\x10\xFE\x07\xFE\x00\xF3\xAA",
-            BROADCAST,
-            1,
-            0,
-            7,
-            b"\x10\xFE\x07\xFE\x00\xF3",
-            b"",
-            b"",
-        ))
-        .with(accepted(
-            b"\x10\x31\x07\x04\x02\x01\x02\x79\x00\xAA",
-            INITIATORS,
-            1,
-            0,
-            10,
-            b"\x10\x31\x07\x04\x02\x01\x02\x79",
-            b"",
-            b"",
-        ))
-        .with(accepted(
-            b"\x10\x08\x07\x04\x00\x17\x00\x0A\xB5\x42\x41\x49\x30\x30\x02\x04\x03\x01\x54\x00\xAA",
-            TARGET,
-            1,
-            1,
-            21,
-            b"\x10\x08\x07\x04\x00\x17",
-            b"\x0A\xB5\x42\x41\x49\x30\x30\x02\x04\x03\x01\x54",
-            b"",
-        ))
-        .with(refused(b"\x10\x08\x07\x04\x00\x17\xAA", 5, 6))
-        .with(refused(b"\x10\x31\x07\x04\x02\x01\x02\x79\x00\x01\x2A", 12, 9))
-        .with(accepted(
-            b"\x10\x08\xB5\x09\x02\xA9\x00\xA9\x01\xAD\x00\x03\xA9\x01\xA9\x00\x00\xCE\x00\xAA",
-            TARGET,
-            1,
-            1,
-            20,
-            b"\x10\x08\xB5\x09\x02\xA9\xAA\xAD",
-            b"\x03\xAA\xA9\x00\xCE",
-            b"",
-        ))
+    cases(
+        Lines::Exchanges,
+        b"10 08 B5 11 01 01 89 00 01 2A B1 00 AA = 02 01 01 / 10 08 B5 11 01 01 89 / 01 2A B1 /
+10 08 B5 11 01 01 89 55 01 2A B1 00 AA ! 12 07
+10 08 B5 04 01 7F 42 00 01 2A B1 00 AA = 02 01 01 / 10 08 B5 04 01 7F 42 / 01 2A B1 /
+10 FE 07 FE 00 F3 AA = 00 01 00 / 10 FE 07 FE 00 F3 / /
+10 31 07 04 02 01 02 79 00 AA = 01 01 00 / 10 31 07 04 02 01 02 79 / /
+10 08 07 04 00 17 00 0A B5 42 41 49 30 30 02 04 03 01 54 00 AA = 02 01 01 / 10 08 07 04 00 17 / 0A B5 42 41 49 30 30 02 04 03 01 54 /
+10 08 07 04 00 17 AA ! 05 06
+10 31 07 04 02 01 02 79 00 01 2A ! 12 09
+10 08 B5 09 02 A9 00 A9 01 AD 00 03 A9 01 A9 00 00 CE 00 AA = 02 01 01 / 10 08 B5 09 02 A9 AA AD / 03 AA A9 00 CE /
+10 FE B5 05 04 27 A9 00 15 A9 01 77 AA = 00 01 00 / 10 FE B5 05 04 27 A9 15 AA 77 / /
+",
+    )
 }
 
 // LEN 16 and 17, of a command and of a reply; LEN 17 in a run that is cut off there.
 pub(crate) fn lengths() -> Tally {
-    none().with(accepted(
-            b"\x10\xFE\x01\x02\x10\x01\x02\x03\x04\x05\x06\x07\x08\x09\x0A\x0B\x0C\x0D\x0E\x0F\x10\x82\xAA",
-            BROADCAST,
-            1,
-            0,
-            23,
-            b"\x10\xFE\x01\x02\x10\x01\x02\x03\x04\x05\x06\x07\x08\x09\x0A\x0B\x0C\x0D\x0E\x0F\x10\x82",
-            b"",
-            b"",
-        ))
-        .with(refused(
-            b"\x10\xFE\x01\x02\x11\x00\x00\x00\x00\x00\x00\x00\x00\x00\x00\x00\x00\x00\x00\x00\x00\x00\x00\xAA",
-            8,
-            4,
-        ))
-        .with(accepted(
-            b"\x10\x08\x01\x02\x00\x0F\x00\x10\x00\x01\x02\x03\x04\x05\x06\x07\x08\x09\x0A\x0B\x0C\x0D\x0E\x0F\x6E\x00\xAA",
-            TARGET,
-            1,
-            1,
-            27,
-            b"\x10\x08\x01\x02\x00\x0F",
-            b"\x10\x00\x01\x02\x03\x04\x05\x06\x07\x08\x09\x0A\x0B\x0C\x0D\x0E\x0F\x6E",
-            b"",
-        ))
-        .with(refused(
-            b"\x10\x08\x01\x02\x00\x0F\x00\x11\x00\x00\x00\x00\x00\x00\x00\x00\x00\x00\x00\x00\x00\x00\x00\x00\x00\x00\x00\xAA",
-            8,
-            7,
-        ))
-        .with(refused(b"\x10\x08\x01\x02\x11", 8, 4))
+    cases(
+        Lines::Exchanges,
+        b"10 FE 01 02 10 01 02 03 04 05 06 07 08 09 0A 0B 0C 0D 0E 0F 10 82 AA = 00 01 00 / 10 FE 01 02 10 01 02 03 04 05 06 07 08 09 0A 0B 0C 0D 0E 0F 10 82 / /
+10 FE 01 02 11 00 00 00 00 00 00 00 00 00 00 00 00 00 00 00 00 00 00 AA ! 08 04
+10 08 01 02 00 0F 00 10 00 01 02 03 04 05 06 07 08 09 0A 0B 0C 0D 0E 0F 6E 00 AA = 02 01 01 / 10 08 01 02 00 0F / 10 00 01 02 03 04 05 06 07 08 09 0A 0B 0C 0D 0E 0F 6E /
+10 08 01 02 00 0F 00 11 00 00 00 00 00 00 00 00 00 00 00 00 00 00 00 00 00 00 00 AA ! 08 07
+10 08 01 02 11 ! 08 04
+",
+    )
 }
 
 // A NACKed command, right or wrong, and every kind of second attempt; NACKed twice; a wrong second attempt.
 pub(crate) fn command_nacked() -> Tally {
-    none().with(accepted(
-            b"\x10\x31\x01\x02\x01\x07\xE4\xFF\x30\xFE\x03\x04\x02\x08\x09\xF3\xAA",
-            BROADCAST,
-            2,
-            0,
-            17,
-            b"\x30\xFE\x03\x04\x02\x08\x09\xF3",
-            b"",
-            b"",
-        ))
-        .with(accepted(
-            b"\x10\x31\x01\x02\x01\x07\x1B\xFF\x30\xFE\x03\x04\x02\x08\x09\xF3\xAA",
-            BROADCAST,
-            2,
-            0,
-            17,
-            b"\x30\xFE\x03\x04\x02\x08\x09\xF3",
-            b"",
-            b"",
-        ))
-        .with(accepted(
-            b"\x10\x31\x01\x02\x01\x07\xE4\xFF\x30\x31\x03\x04\x02\x08\x09\x1D\x00\xAA",
-            INITIATORS,
-            2,
-            0,
-            18,
-            b"\x30\x31\x03\x04\x02\x08\x09\x1D",
-            b"",
-            b"",
-        ))
-        .with(accepted(
-            b"\x10\x31\x01\x02\x01\x07\x1B\xFF\x30\x31\x03\x04\x02\x08\x09\x1D\x00\xAA",
-            INITIATORS,
-            2,
-            0,
-            18,
-            b"\x30\x31\x03\x04\x02\x08\x09\x1D",
-            b"",
-            b"",
-        ))
-        .with(accepted(
-            b"\x10\x31\x01\x02\x01\x07\xE4\xFF\x30\x08\x03\x04\x02\x08\x09\x48\x00\x01\x05\x9E\x00\xAA",
-            TARGET,
-            2,
-            1,
-            22,
-            b"\x30\x08\x03\x04\x02\x08\x09\x48",
-            b"\x01\x05\x9E",
-            b"",
-        ))
-        .with(accepted(
-            b"\x10\x31\x01\x02\x01\x07\x1B\xFF\x30\x08\x03\x04\x02\x08\x09\x48\x00\x01\x05\x9E\x00\xAA",
-            TARGET,
-            2,
-            1,
-            22,
-            b"\x30\x08\x03\x04\x02\x08\x09\x48",
-            b"\x01\x05\x9E",
-            b"",
-        ))
-        .with(accepted(
-            b"\x10\x08\x01\x02\x01\x07\x72\xFF\x30\xFE\x03\x04\x02\x08\x09\xF3\xAA",
-            BROADCAST,
-            2,
-            0,
-            17,
-            b"\x30\xFE\x03\x04\x02\x08\x09\xF3",
-            b"",
-            b"",
-        ))
-        .with(accepted(
-            b"\x10\x08\x01\x02\x01\x07\x8D\xFF\x30\xFE\x03\x04\x02\x08\x09\xF3\xAA",
-            BROADCAST,
-            2,
-            0,
-            17,
-            b"\x30\xFE\x03\x04\x02\x08\x09\xF3",
-            b"",
-            b"",
-        ))
-        .with(accepted(
-            b"\x10\x08\x01\x02\x01\x07\x72\xFF\x30\x31\x03\x04\x02\x08\x09\x1D\x00\xAA",
-            INITIATORS,
-            2,
-            0,
-            18,
-            b"\x30\x31\x03\x04\x02\x08\x09\x1D",
-            b"",
-            b"",
-        ))
-        .with(accepted(
-            b"\x10\x08\x01\x02\x01\x07\x8D\xFF\x30\x31\x03\x04\x02\x08\x09\x1D\x00\xAA",
-            INITIATORS,
-            2,
-            0,
-            18,
-            b"\x30\x31\x03\x04\x02\x08\x09\x1D",
-            b"",
-            b"",
-        ))
-        .with(accepted(
-            b"\x10\x08\x01\x02\x01\x07\x72\xFF\x30\x08\x03\x04\x02\x08\x09\x48\x00\x01\x05\x9E\x00\xAA",
-            TARGET,
-            2,
-            1,
-            22,
-            b"\x30\x08\x03\x04\x02\x08\x09\x48",
-            b"\x01\x05\x9E",
-            b"",
-        ))
-        .with(accepted(
-            b"\x10\x08\x01\x02\x01\x07\x8D\xFF\x30\x08\x03\x04\x02\x08\x09\x48\x00\x01\x05\x9E\x00\xAA",
-            TARGET,
-            2,
-            1,
-            22,
-            b"\x30\x08\x03\x04\x02\x08\x09\x48",
-            b"\x01\x05\x9E",
-            b"",
-        ))
-        .with(refused(
-            b"\x10\x08\x01\x02\x01\x07\x72\xFF\x10\x08\x01\x02\x01\x07\x72\xFF\xAA",
-            10,
-            15,
-        ))
-        .with(refused(
-            b"\x10\x08\x01\x02\x01\x07\x72\xFF\x10\x08\x01\x02\x01\x07\x8D\x00",
-            9,
-            14,
-        ))
-        .with(refused(b"\x10\xFE\x01\x02\x01\x07\x14\xAA", 9, 6))
+    cases(
+        Lines::Exchanges,
+        b"10 31 01 02 01 07 E4 FF 30 FE 03 04 02 08 09 F3 AA = 00 02 00 / 30 FE 03 04 02 08 09 F3 / /
+10 31 01 02 01 07 1B FF 30 FE 03 04 02 08 09 F3 AA = 00 02 00 / 30 FE 03 04 02 08 09 F3 / /
+10 31 01 02 01 07 E4 FF 30 31 03 04 02 08 09 1D 00 AA = 01 02 00 / 30 31 03 04 02 08 09 1D / /
+10 31 01 02 01 07 1B FF 30 31 03 04 02 08 09 1D 00 AA = 01 02 00 / 30 31 03 04 02 08 09 1D / /
+10 31 01 02 01 07 E4 FF 30 08 03 04 02 08 09 48 00 01 05 9E 00 AA = 02 02 01 / 30 08 03 04 02 08 09 48 / 01 05 9E /
+10 31 01 02 01 07 1B FF 30 08 03 04 02 08 09 48 00 01 05 9E 00 AA = 02 02 01 / 30 08 03 04 02 08 09 48 / 01 05 9E /
+10 08 01 02 01 07 72 FF 30 FE 03 04 02 08 09 F3 AA = 00 02 00 / 30 FE 03 04 02 08 09 F3 / /
+10 08 01 02 01 07 8D FF 30 FE 03 04 02 08 09 F3 AA = 00 02 00 / 30 FE 03 04 02 08 09 F3 / /
+10 08 01 02 01 07 72 FF 30 31 03 04 02 08 09 1D 00 AA = 01 02 00 / 30 31 03 04 02 08 09 1D / /
+10 08 01 02 01 07 8D FF 30 31 03 04 02 08 09 1D 00 AA = 01 02 00 / 30 31 03 04 02 08 09 1D / /
+10 08 01 02 01 07 72 FF 30 08 03 04 02 08 09 48 00 01 05 9E 00 AA = 02 02 01 / 30 08 03 04 02 08 09 48 / 01 05 9E /
+10 08 01 02 01 07 8D FF 30 08 03 04 02 08 09 48 00 01 05 9E 00 AA = 02 02 01 / 30 08 03 04 02 08 09 48 / 01 05 9E /
+10 08 01 02 01 07 72 FF 10 08 01 02 01 07 72 FF AA ! 10 15
+10 08 01 02 01 07 72 FF 10 08 01 02 01 07 8D 00 ! 09 14
+10 FE 01 02 01 07 14 AA ! 09 06
+",
+    )
 }
 
 // A NACKed reply, right or wrong, behind one attempt at the command and behind two; NACKed twice; wrong replies.
 pub(crate) fn reply_nacked() -> Tally {
-    none().with(accepted(
-            b"\x10\x08\x01\x02\x01\x07\x72\x00\x03\x01\x02\x03\x5A\xFF\x02\x04\x05\xE8\x00\xAA",
-            TARGET,
-            1,
-            2,
-            20,
-            b"\x10\x08\x01\x02\x01\x07\x72",
-            b"\x03\x01\x02\x03\x5A",
-            b"\x02\x04\x05\xE8",
-        ))
-        .with(accepted(
-            b"\x10\x08\x01\x02\x01\x07\x72\x00\x03\x01\x02\x03\x4B\xFF\x02\x04\x05\xE8\x00\xAA",
-            TARGET,
-            1,
-            2,
-            20,
-            b"\x10\x08\x01\x02\x01\x07\x72",
-            b"\x03\x01\x02\x03\x4B",
-            b"\x02\x04\x05\xE8",
-        ))
-        .with(refused(
-            b"\x10\x08\x01\x02\x01\x07\x72\x00\x01\x01\x9A\xFF\x01\x02\x99\xFF\xAA",
-            11,
-            15,
-        ))
-        .with(refused(
-            b"\x10\x08\x01\x02\x01\x07\x72\x00\x01\x01\x8B\x00\xAA",
-            9,
-            10,
-        ))
-        .with(refused(
-            b"\x10\x08\x01\x02\x01\x07\x72\x00\x01\x01\x9A\xFF\x01\x02\x88\x00\xAA",
-            9,
-            14,
-        ))
-        .with(refused(
-            b"\x10\x08\x01\x02\x01\x07\x72\x00\x01\x01\x9A\x00\x00",
-            12,
-            12,
-        ))
-        .with(accepted(
-            b"\x10\x31\x09\x09\x00\xC6\xFF\x10\x08\x01\x02\x01\x07\x72\x00\x03\x01\x02\x03\x5A\xFF\x02\x04\x05\xE8\x00\xAA",
-            TARGET,
-            2,
-            2,
-            27,
-            b"\x10\x08\x01\x02\x01\x07\x72",
-            b"\x03\x01\x02\x03\x5A",
-            b"\x02\x04\x05\xE8",
-        ))
-        .with(accepted(
-            b"\x10\x31\x09\x09\x00\xC6\xFF\x10\x08\x01\x02\x01\x07\x72\x00\x03\x01\x02\x03\x4B\xFF\x02\x04\x05\xE8\x00\xAA",
-            TARGET,
-            2,
-            2,
-            27,
-            b"\x10\x08\x01\x02\x01\x07\x72",
-            b"\x03\x01\x02\x03\x4B",
-            b"\x02\x04\x05\xE8",
-        ))
-        .with(refused(
-            b"\x10\x31\x09\x09\x00\xC6\xFF\x10\x08\x01\x02\x01\x07\x72\x00\x01\x01\x9A\xFF\x01\x02\x99\xFF\xAA",
-            11,
-            22,
-        ))
-        .with(refused(
-            b"\x10\x31\x09\x09\x00\xC6\xFF\x10\x08\x01\x02\x01\x07\x72\x00\x01\x01\x8B\x00\xAA",
-            9,
-            17,
-        ))
-        .with(refused(
-            b"\x10\x31\x09\x09\x00\xC6\xFF\x10\x08\x01\x02\x01\x07\x72\x00\x01\x01\x9A\xFF\x01\x02\x88\x00\xAA",
-            9,
-            21,
-        ))
-        .with(refused(
-            b"\x10\x31\x09\x09\x00\xC6\xFF\x10\x08\x01\x02\x01\x07\x72\x00\x01\x01\x9A\x00\x00",
-            12,
-            19,
-        ))
+    cases(
+        Lines::Exchanges,
+        b"10 08 01 02 01 07 72 00 03 01 02 03 5A FF 02 04 05 E8 00 AA = 02 01 02 / 10 08 01 02 01 07 72 / 03 01 02 03 5A / 02 04 05 E8
+10 08 01 02 01 07 72 00 03 01 02 03 4B FF 02 04 05 E8 00 AA = 02 01 02 / 10 08 01 02 01 07 72 / 03 01 02 03 4B / 02 04 05 E8
+10 08 01 02 01 07 72 00 01 01 9A FF 01 02 99 FF AA ! 11 15
+10 08 01 02 01 07 72 00 01 01 8B 00 AA ! 09 10
+10 08 01 02 01 07 72 00 01 01 9A FF 01 02 88 00 AA ! 09 14
+10 08 01 02 01 07 72 00 01 01 9A 00 00 ! 12 12
+10 31 09 09 00 C6 FF 10 08 01 02 01 07 72 00 03 01 02 03 5A FF 02 04 05 E8 00 AA = 02 02 02 / 10 08 01 02 01 07 72 / 03 01 02 03 5A / 02 04 05 E8
+10 31 09 09 00 C6 FF 10 08 01 02 01 07 72 00 03 01 02 03 4B FF 02 04 05 E8 00 AA = 02 02 02 / 10 08 01 02 01 07 72 / 03 01 02 03 4B / 02 04 05 E8
+10 31 09 09 00 C6 FF 10 08 01 02 01 07 72 00 01 01 9A FF 01 02 99 FF AA ! 11 22
+10 31 09 09 00 C6 FF 10 08 01 02 01 07 72 00 01 01 8B 00 AA ! 09 17
+10 31 09 09 00 C6 FF 10 08 01 02 01 07 72 00 01 01 9A FF 01 02 88 00 AA ! 09 21
+10 31 09 09 00 C6 FF 10 08 01 02 01 07 72 00 01 01 9A 00 00 ! 12 19
+",
+    )
 }
 
 // A command of 41 raw bytes and a reply of 35; escapes in SRC, DST and LEN, broken ones, and one where a byte is due.
 pub(crate) fn escaped() -> Tally {
-    none().with(accepted(
-            b"\x10\x08\xA9\x00\xA9\x00\x10\xA9\x01\xA9\x00\xA9\x00\xA9\x01\xA9\x01\xA9\x00\xA9\x00\xA9\x00\xA9\x00\xA9\x00\xA9\x00\xA9\x00\xA9\x00\xA9\x00\xA9\x00\xA9\x00\xA9\x00\x00\x10\xA9\x00\xA9\x00\xA9\x00\xA9\x01\xA9\x00\xA9\x01\xA9\x01\xA9\x00\xA9\x00\xA9\x00\xA9\x00\xA9\x00\xA9\x00\xA9\x00\xA9\x00\xA9\x00\xA9\x00\x00\xAA",
-            TARGET,
-            1,
-            1,
-            79,
-            b"\x10\x08\xA9\xA9\x10\xAA\xA9\xA9\xAA\xAA\xA9\xA9\xA9\xA9\xA9\xA9\xA9\xA9\xA9\xA9\xA9\xA9",
-            b"\x10\xA9\xA9\xA9\xAA\xA9\xAA\xAA\xA9\xA9\xA9\xA9\xA9\xA9\xA9\xA9\xA9\xA9",
-            b"",
-        ))
-        .with(refused(
-            b"\xA9\x00\x08\xB5\x11\x01\x01\x89\x00\x01\x2A\xB1\x00\xAA",
-            6,
-            0,
-        ))
-        .with(refused(
-            b"\x10\xA9\x01\xB5\x11\x01\x01\x89\x00\x01\x2A\xB1\x00\xAA",
-            7,
-            1,
-        ))
-        .with(refused(
-            b"\x10\x08\xB5\x11\xA9\x00\x01\x89\x00\x01\x2A\xB1\x00\xAA",
-            8,
-            4,
-        ))
-        .with(refused(b"\xA9\x55", 4, 1))
-        .with(refused(b"\x10\xA9\x55", 4, 2))
-        .with(refused(b"\x10\xA9\xAA", 5, 2))
-        .with(refused(b"\x10\x08\xA9", 3, 3))
-        .with(refused(b"\x10\x08\xB5\x11\x01\x01\x89\xA9\x00", 12, 7))
+    cases(
+        Lines::Exchanges,
+        b"10 08 A9 00 A9 00 10 A9 01 A9 00 A9 00 A9 01 A9 01 A9 00 A9 00 A9 00 A9 00 A9 00 A9 00 A9 00 A9 00 A9 00 A9 00 A9 00 A9 00 00 10 A9 00 A9 00 A9 00 A9 01 A9 00 A9 01 A9 01 A9 00 A9 00 A9 00 A9 00 A9 00 A9 00 A9 00 A9 00 A9 00 A9 00 00 AA = 02 01 01 / 10 08 A9 A9 10 AA A9 A9 AA AA A9 A9 A9 A9 A9 A9 A9 A9 A9 A9 A9 A9 / 10 A9 A9 A9 AA A9 AA AA A9 A9 A9 A9 A9 A9 A9 A9 A9 A9 /
+A9 00 08 B5 11 01 01 89 00 01 2A B1 00 AA ! 06 00
+10 A9 01 B5 11 01 01 89 00 01 2A B1 00 AA ! 07 01
+10 08 B5 11 A9 00 01 89 00 01 2A B1 00 AA ! 08 04
+A9 55 ! 04 01
+10 A9 55 ! 04 02
+10 A9 AA ! 05 02
+10 08 A9 ! 03 03
+10 08 B5 11 01 01 89 A9 00 ! 12 07
+",
+    )
 }
 
 // A part of a run, from its start.
@@ -455,9 +228,14 @@ fn prefixes_of(run: &[u8]) -> Tally {
 
 // An exchange with every part repeated, as long as they get: 125 raw bytes.
 pub(crate) fn prefixes() -> Tally {
-    prefixes_of(
-        b"\x10\x08\xA9\x00\xA9\x00\x10\xA9\x01\xA9\x00\xA9\x00\xA9\x01\xA9\x01\xA9\x00\xA9\x00\xA9\x00\xA9\x00\xA9\x00\xA9\x00\xA9\x00\xA9\x00\xA9\x00\xA9\x00\xA9\x00\xA9\x00\xFF\x10\x08\xA9\x00\xA9\x00\x10\xA9\x01\xA9\x00\xA9\x00\xA9\x01\xA9\x01\xA9\x00\xA9\x00\xA9\x00\xA9\x00\xA9\x00\xA9\x00\xA9\x00\xA9\x00\xA9\x00\xA9\x00\xA9\x00\xA9\x00\x00\x01\x01\x8B\xFF\x10\xA9\x00\xA9\x00\xA9\x00\xA9\x01\xA9\x00\xA9\x01\xA9\x01\xA9\x00\xA9\x00\xA9\x00\xA9\x00\xA9\x00\xA9\x00\xA9\x00\xA9\x00\xA9\x00\xA9\x00\x00\xAA",
-    )
+    let mut run = [0u8; 128];
+    let r = read_field(
+        b"10 08 A9 00 A9 00 10 A9 01 A9 00 A9 00 A9 01 A9 01 A9 00 A9 00 A9 00 A9 00 A9 00 A9 00 A9 00 A9 00 A9 00 A9 00 A9 00 A9 00 FF 10 08 A9 00 A9 00 10 A9 01 A9 00 A9 00 A9 01 A9 01 A9 00 A9 00 A9 00 A9 00 A9 00 A9 00 A9 00 A9 00 A9 00 A9 00 A9 00 A9 00 00 01 01 8B FF 10 A9 00 A9 00 A9 00 A9 01 A9 00 A9 01 A9 01 A9 00 A9 00 A9 00 A9 00 A9 00 A9 00 A9 00 A9 00 A9 00 A9 00 00 AA",
+        0,
+        true,
+        &mut run,
+    );
+    prefixes_of(start(&run, r.n))
 }
 
 // What is due for a run that is W7 with one byte changed: 0 is its acceptance.

@@ -1,8 +1,11 @@
 // Published frames and made cases, each run through the library and held to what it must give.
 // One line for each group says how many were run and how many were right.
+mod answers;
+mod cases;
 mod checks;
 mod escapes;
 mod exchanges;
+mod lines;
 mod scans;
 mod tally;
 
@@ -24,6 +27,7 @@ fn main() {
     exchanges::each_value(4, 13).say(b"exchanges, each LEN");
     exchanges::each_value(7, 8).say(b"exchanges, each byte after a command");
     exchanges::each_value(11, 12).say(b"exchanges, each byte after a reply");
+    answers::published().say(b"answers, published");
     scans::sizes().say(b"scans, 0 to 248 devices");
     scans::caps().say(b"scans, caps");
     scans::serials().say(b"scans, serials");

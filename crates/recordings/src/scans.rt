@@ -8,20 +8,24 @@ use devices::scan;
 // What stays untouched in a lent list.
 const FILL: u32 = 0x5A5A5A5A;
 
-// The answers, as numbers to compare: Complete, Nobody, Unfinished and refused with 1 or 2.
-const COMPLETE: u8 = 10;
+// The answers, as numbers to compare.
+const COMPLETE: u8 = 0;
 
-const NOBODY: u8 = 11;
+const NOBODY: u8 = 1;
 
-const UNFINISHED: u8 = 12;
+const UNFINISHED: u8 = 2;
 
-// Whether a scan gave this answer; a number below 10 is a refusal at 0.
-fn gave(s: Scanned, answer: u8, sent: usize) -> bool {
+const REFUSED: u8 = 3;
+
+// Whether a scan gave this answer: with so many requests sent, or with this number at 0.
+fn gave(s: Scanned, answer: u8, count: usize) -> bool {
     match s {
-        Scanned::Complete(n) => answer == COMPLETE && n == sent,
-        Scanned::Nobody(n) => answer == NOBODY && n == sent,
-        Scanned::Unfinished(n) => answer == UNFINISHED && n == sent,
-        Scanned::Refused(why) => why.number == answer && why.place == 0,
+        Scanned::Complete(n) => answer == COMPLETE && n == count,
+        Scanned::Nobody(n) => answer == NOBODY && n == count,
+        Scanned::Unfinished(n) => answer == UNFINISHED && n == count,
+        Scanned::Refused(why) => {
+            answer == REFUSED && why.number as usize == count && why.place == 0
+        }
     }
 }
 
@@ -107,15 +111,15 @@ fn scan_first(
     )
 }
 
-// Whether a scan of n devices under a cap gives this answer, names so many serials in rising order,
-// and marks as many devices.
+// Whether a scan of n devices under a cap gives this answer with its count, names so many serials in
+// rising order, and marks as many devices.
 fn scanned(
     n: usize,
     first: u32,
     step: u32,
     cap: usize,
     answer: u8,
-    sent: usize,
+    count: usize,
     named: usize,
 ) -> bool {
     let mut serials = [0u32; 256];
@@ -133,7 +137,7 @@ fn scanned(
         n,
         cap,
     );
-    gave(s, answer, sent) && rising(&found, named) && marked(&marks, named)
+    gave(s, answer, count) && rising(&found, named) && marked(&marks, named)
 }
 
 // 0, 1, 2, 9, 246, 247 and 248 devices.
@@ -144,7 +148,7 @@ pub(crate) fn sizes() -> Tally {
         .with(scanned(9, 5, 11, 10, COMPLETE, 10, 9))
         .with(scanned(246, 5, 11, 247, COMPLETE, 247, 246))
         .with(scanned(247, 5, 11, 248, COMPLETE, 248, 247))
-        .with(scanned(248, 5, 11, 249, 2, 0, 0))
+        .with(scanned(248, 5, 11, 249, REFUSED, 2, 0))
 }
 
 // Caps of 0, 1, n, n + 1 and n + 2.
@@ -165,7 +169,7 @@ pub(crate) fn serials() -> Tally {
         .with(scanned(2, 0, 0x08000000, 3, COMPLETE, 3, 2))
         .with(scanned(200, 0x0FFFFF05, 1, 201, COMPLETE, 201, 200))
         .with(scanned(1, 0x0FFFFFFF, 1, 2, COMPLETE, 2, 1))
-        .with(scanned(1, 0x10000000, 1, 2, 2, 0, 0))
-        .with(scanned(2, 0x0FFFFFFF, 1, 3, 2, 0, 0))
-        .with(scanned(2, 5, 0, 3, 2, 0, 0))
+        .with(scanned(1, 0x10000000, 1, 2, REFUSED, 2, 0))
+        .with(scanned(2, 0x0FFFFFFF, 1, 3, REFUSED, 2, 0))
+        .with(scanned(2, 5, 0, 3, REFUSED, 2, 0))
 }

@@ -1,4 +1,3 @@
--- Laws that every crate above cites: cases of a test, and lists as lent outputs hold them.
-pub mod Cases
-pub mod Lists
+-- Laws for calls that write, and for the numbers of an answer.
 pub mod Writer
+pub mod Numbers

@@ -1,4 +1,4 @@
--- Definitions that every crate cites: the refusals by name, and what a lent output holds afterwards.
+-- The refusals by name, an answer as numbers, and what a call that writes gives.
 pub mod Number
+pub mod Numbers
 pub mod Output
-pub mod Choice

@@ -1,4 +1,4 @@
--- Document 01, "Numbers handed back on refusal": each number by its name, in the table's order.
+-- Rule N1: each number by its name, in the order of the table of docs/RULES.md.
 -- Assumes nothing.
 use Prim.Native.Nat.{ℕ}
 use Rattle.refusal.specs.declared.Refusal.{Refusal}

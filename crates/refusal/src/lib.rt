@@ -1,21 +1,17 @@
-// What a call answers when it refuses: document 01's number and the place of the raw byte named.
+// What a call answers when it refuses: rule N1's number and the place of the raw byte named.
 //
-// The constants read like document 01's table, "Numbers handed back on refusal". Each crate above
+// The constants read like the table of numbers in docs/RULES.md. Each crate above
 // takes its numbers from here, so a new number is a new line here and changes no `match`.
 
-ghost use mathlib.Core.Path.{_≡_};
-ghost use lib.ListN.{length, take};
-ghost use Rattle.refusal.specs.Output.{starting};
-
-// A lent output is shorter than stated.
+// What was lent for output has too little room.
 pub const OUTPUT_SHORT: u8 = 1;
 // The device table is not valid.
 pub const TABLE_NOT_VALID: u8 = 2;
-// The run ends before SYN was due and read; in undoing, after a lone A9.
+// The run is over before the exchange, or an escape, is whole.
 pub const RUN_ENDED: u8 = 3;
 // The byte after A9 is none of 00, 01, AA.
 pub const ESCAPE_WRONG: u8 = 4;
-// Raw AA where another byte was due.
+// SYN came too early.
 pub const SYN_EARLY: u8 = 5;
 // SRC is no initiator address.
 pub const SOURCE_WRONG: u8 = 6;
@@ -23,7 +19,7 @@ pub const SOURCE_WRONG: u8 = 6;
 pub const DESTINATION_WRONG: u8 = 7;
 // LEN is over 16.
 pub const LENGTH_OVER: u8 = 8;
-// Wrong check byte in an accepted attempt.
+// An attempt was accepted, and its check byte is wrong.
 pub const CHECK_WRONG: u8 = 9;
 // The command was NACKed twice.
 pub const COMMAND_NACKED: u8 = 10;
@@ -31,15 +27,15 @@ pub const COMMAND_NACKED: u8 = 10;
 pub const REPLY_NACKED: u8 = 11;
 // Bus error: an acknowledge byte that is none of 00, FF, AA, or not AA where SYN is due.
 pub const BUS_ERROR: u8 = 12;
-// Modbus length wrong.
+// A frame's length does not fit.
 pub const FRAME_LENGTH: u8 = 13;
-// Not FD 46.
+// A frame does not begin as it must.
 pub const FRAME_HEAD: u8 = 14;
-// Subcommand not one this reader takes.
+// A reader was given a subcommand of others.
 pub const SUBCOMMAND_WRONG: u8 = 15;
-// Modbus check wrong.
+// A frame's check does not fit its bytes.
 pub const FRAME_CHECK: u8 = 16;
-// Serial 2^28 or more.
+// A serial has more than 28 bits.
 pub const SERIAL_OVER: u8 = 17;
 
 // A refusal: the number, and the offset of the raw byte named, 0 where none is named.
@@ -52,18 +48,4 @@ pub struct Refusal {
 pub enum Written {
     Length(usize),
     Refused(Refusal),
-}
-
-// Puts the bytes at the start of a lent output, as many as it holds; the bytes behind them stay.
-pub fn put(bytes: &[u8], out: &mut [u8])
-    ensures { λ _. ⌜ now (out .exit) ≡ starting (take (length (now (out .entry))) (now (bytes .entry))) (now (out .entry)) ⌝ }
-{
-    let mut i = 0;
-    while i < bytes.len() {
-        if out.len() <= i {
-            return;
-        }
-        out[i] = bytes[i];
-        i += 1;
-    }
 }

@@ -1,8 +1,9 @@
 -- The proof of demand 3.
 pub mod Ranks
-pub mod Ordered
-pub mod Requests
-pub mod Alone
-pub mod Made
-pub mod Scans
-pub mod Demand
+pub mod MarksInOrder
+pub mod TurnsDue
+pub mod OneRemains
+pub mod CallTurns
+pub mod CallRefusals
+pub mod WholeScans
+pub mod Demand3

@@ -9,17 +9,18 @@ use native.Mathlib.Omega.{arith}
 use lib.Dec.{ltb}
 use lib.ListN.{length, getD}
 use borrow.Author.Tests.{ltb-true, ltb-false, lt-ltb, le-ltb}
-use Rattle.refusal.specs.Choice.{pick}
-use Rattle.arbitration.proofs.Tests.{by-test}
+use Rattle.lists.specs.Choice.{pick}
+use Rattle.lists.proofs.Cases.{by-test}
 use Rattle.table.specs.Table.{Table, devices}
-use Rattle.devices.specs.Rank.{count, rank}
-use Rattle.devices.proofs.Counting.{count-le, count-lt, count-not-all}
+use Rattle.lists.specs.Tests.{howMany}
+use Rattle.devices.specs.Rank.{rank}
+use Rattle.lists.proofs.Counting.{howMany-le, howMany-lt, howMany-not-all}
 use Rattle.table.proofs.Meaning.{Tested, same-device}
 use Rattle.sequence.specs.Sequence.{serialAt}
 
 -- none, where each fails
-pub count-none : (f : ℕ → Bool) (xs : List ℕ) → ((i : ℕ) → i < length xs → f (getD xs i 0) ≡ false) → count f xs ≡ 0
-unfolding count
+pub count-none : (f : ℕ → Bool) (xs : List ℕ) → ((i : ℕ) → i < length xs → f (getD xs i 0) ≡ false) → howMany f xs ≡ 0
+unfolding howMany
 count-none f [] each = refl
 count-none f (x ∷ xs) each =
     let first : _≡_ {A = ℕ} (pick (f x) 1 0) 0 = ap (λ (b : Bool). pick b 1 0) (each 0 (omega arith)) in
@@ -35,19 +36,19 @@ module _ (t : Table) where
   wider : (i j : ℕ) → serialAt t i ≤ serialAt t j → (k : ℕ) → k < devices t → ltb (serialAt t k) (serialAt t i) ≡ true → ltb (serialAt t k) (serialAt t j) ≡ true
   wider i j le k h e = lt-ltb (serialAt t k) (serialAt t j) (omega (arith, ltb-true (serialAt t k) (serialAt t i) e))
 
-  pub rank-le : (i j : ℕ) → serialAt t i ≤ serialAt t j → rank t i ≤ rank t j
+  rank-le : (i j : ℕ) → serialAt t i ≤ serialAt t j → rank t i ≤ rank t j
   unfolding rank
-  rank-le i j le = count-le (λ s. ltb s (serialAt t i)) (λ s. ltb s (serialAt t j)) (t .serials) (t .serials) refl (wider i j le)
+  rank-le i j le = howMany-le (λ s. ltb s (serialAt t i)) (λ s. ltb s (serialAt t j)) (t .serials) (t .serials) refl (wider i j le)
 
-  pub rank-lt : (i j : ℕ) → i < devices t → serialAt t i < serialAt t j → rank t i < rank t j
+  rank-lt : (i j : ℕ) → i < devices t → serialAt t i < serialAt t j → rank t i < rank t j
   unfolding rank
   rank-lt i j h lt =
-      count-lt (λ s. ltb s (serialAt t i)) (λ s. ltb s (serialAt t j)) (t .serials) (t .serials) refl (wider i j (omega arith)) i h
+      howMany-lt (λ s. ltb s (serialAt t i)) (λ s. ltb s (serialAt t j)) (t .serials) (t .serials) refl (wider i j (omega arith)) i h
       (le-ltb (serialAt t i) (serialAt t i) (le-refl (serialAt t i))) (lt-ltb (serialAt t i) (serialAt t j) lt)
 
   pub rank-below : (i : ℕ) → i < devices t → rank t i < devices t
   unfolding rank
-  rank-below i h = count-not-all (λ s. ltb s (serialAt t i)) (t .serials) i h (le-ltb (serialAt t i) (serialAt t i) (le-refl (serialAt t i)))
+  rank-below i h = howMany-not-all (λ s. ltb s (serialAt t i)) (t .serials) i h (le-ltb (serialAt t i) (serialAt t i) (le-refl (serialAt t i)))
 
   -- a smaller rank is a smaller serial
   pub rank-serial : (i j : ℕ) → rank t i < rank t j → serialAt t i < serialAt t j

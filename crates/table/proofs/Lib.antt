@@ -1,3 +1,3 @@
 -- Laws of the table.
-pub mod Lists
 pub mod Meaning
+pub mod Slots

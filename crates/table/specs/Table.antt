@@ -1,21 +1,20 @@
--- The device table, as a value: three columns are one view of it. When it is valid.
+-- Rule D1: the device table, as a value of which three columns are one view, and when it is valid.
 -- Assumes nothing.
 use Prim.Native.Nat.{ℕ}
-use mathlib.Core.Bool.{Bool, true, false}
-use mathlib.Core.List.{List, [], _∷_}
+use mathlib.Core.Bool.{Bool, _&&_}
+use mathlib.Core.List.{List}
 use lib.Dec.{leb, ltb, eqb}
 use lib.ListN.{length}
-use Rattle.refusal.specs.Choice.{pick}
-use Rattle.arbitration.specs.Contest.{some}
+use Rattle.lists.specs.Tests.{all, different}
 pub use Rattle.fastmodbus.specs.Layout.{serialLimit}
 
--- "serial (32 bits), address, and a scanned mark, 0 or 1"
+-- of each device its serial, its address, and its mark, which says whether it was scanned
 pub record Table : Type 0 where
   pub serials : List ℕ
   pub addresses : List ℕ
   pub marks : List ℕ
 
--- "The table is three lent columns"
+-- the table that three columns hold
 abbrev pub columns : List ℕ → List ℕ → List ℕ → Table
 columns serials addresses marks = record { serials = serials; addresses = addresses; marks = marks }
 
@@ -27,15 +26,9 @@ devices t = length (t .serials)
 abbrev pub marked : Table → List ℕ → Table
 marked t marks = record { serials = t .serials; addresses = t .addresses; marks = marks }
 
--- whether each number passes a test
-unfoldable pub every : (ℕ → Bool) → List ℕ → Bool
-every test [] = true
-every test (x ∷ xs) = pick (test x) (every test xs) false
-
--- whether no number stands twice
-unfoldable pub different : List ℕ → Bool
-different [] = true
-different (x ∷ xs) = pick (some (eqb x) xs) false (different xs)
+-- a table has no more devices than this
+abbrev pub mostDevices : ℕ
+mostDevices = 247
 
 abbrev pub serialRight : ℕ → Bool
 serialRight serial = ltb serial serialLimit
@@ -43,14 +36,13 @@ serialRight serial = ltb serial serialLimit
 abbrev pub markRight : ℕ → Bool
 markRight mark = ltb mark 2
 
--- "It is valid when the columns are equally long, at most 247, serials are below 2^28 (house rule) and differ, and marks
--- are 0 or 1. Equal addresses are allowed."
+-- rule D1: columns of one length, not too many devices, serials that are right and differ, and right marks; of addresses
+-- nothing is asked
 unfoldable pub valid : Table → Bool
 valid t =
-    pick (eqb (length (t .addresses)) (devices t))
-    (pick (eqb (length (t .marks)) (devices t))
-    (pick (leb (devices t) 247)
-    (pick (every serialRight (t .serials))
-    (pick (different (t .serials))
-    (every markRight (t .marks))
-    false) false) false) false) false
+    eqb (length (t .addresses)) (devices t)
+    && (eqb (length (t .marks)) (devices t)
+    && (leb (devices t) mostDevices
+    && (all serialRight (t .serials)
+    && (different (t .serials)
+    && all markRight (t .marks)))))

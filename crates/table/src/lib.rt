@@ -1,72 +1,91 @@
 // The device table: three lent columns, and when they are valid.
 //
-// Document 01, "Devices and arbitration".
+// Rule D1.
+use fastmodbus::SERIAL_LIMIT;
 ghost use mathlib.Core.Path.{_≡_};
 ghost use lib.Dec.{eqb};
-ghost use Rattle.arbitration.specs.Contest.{some};
-ghost use Rattle.table.specs.Table.{columns, every, different, serialRight, markRight, valid};
-
-// A serial is below this.
-const SERIAL_LIMIT: u32 = 0x1000_0000;
+ghost use Rattle.lists.specs.Tests.{any, all, different};
+ghost use Rattle.table.specs.Table.{columns, serialRight, markRight, valid};
+ghost use Rattle.table.specs.Slots.{slotOf};
 
 // A table has at most this many devices.
-const MOST_DEVICES: usize = 247;
+pub const MOST_DEVICES: usize = 247;
 
-// Whether each serial is below 2^28.
+// Serials are told apart by this many slots, one for each value of their low bits.
+const SLOTS: usize = 2048;
+
+// Whether each serial is below 2^28. The three loops that look at a whole list have no way out before
+// its end, so that a processor takes several numbers at a time.
 fn serials_right(serials: &[u32]) -> bool
-    ensures { λ r. ⌜ r ≡ every serialRight (now (serials .entry)) ⌝ }
+    ensures { λ r. ⌜ r ≡ all serialRight (now (serials .entry)) ⌝ }
 {
+    let mut right = true;
     let mut i = 0;
     while i < serials.len() {
         if serials[i] >= SERIAL_LIMIT {
-            return false;
+            right = false;
         }
         i += 1;
     }
-    true
+    right
 }
 
 // Whether the serial stands in the list.
 fn stands_in(serial: u32, serials: &[u32]) -> bool
-    ensures { λ r. ⌜ r ≡ some (eqb serial) (now (serials .entry)) ⌝ }
+    ensures { λ r. ⌜ r ≡ any (eqb serial) (now (serials .entry)) ⌝ }
 {
+    let mut stands = false;
     let mut i = 0;
     while i < serials.len() {
         if serial == serials[i] {
-            return true;
+            stands = true;
         }
         i += 1;
     }
-    false
+    stands
 }
 
-// Whether no serial stands twice.
+// The slot of a serial: its low bits.
+fn slot_of(serial: u32) -> usize
+    ensures { λ r. ⌜ r ≡ slotOf serial ⌝ }
+{
+    serial as usize % SLOTS
+}
+
+// Whether no serial stands twice. A serial whose slot is free stands nowhere before; only one whose
+// slot another has taken is compared with all before it.
 fn serials_differ(serials: &[u32]) -> bool
     ensures { λ r. ⌜ r ≡ different (now (serials .entry)) ⌝ }
 {
+    let mut taken = [0u8; SLOTS];
     let mut i = 0;
     while i < serials.len() {
-        let next = i + 1;
-        if stands_in(serials[i], &serials[next..]) {
-            return false;
+        let serial = serials[i];
+        let slot = slot_of(serial);
+        if taken[slot] > 0 {
+            if stands_in(serial, &serials[..i]) {
+                return false;
+            }
         }
-        i = next;
+        taken[slot] = 1;
+        i += 1;
     }
     true
 }
 
 // Whether each mark is 0 or 1.
 fn marks_right(marks: &[u8]) -> bool
-    ensures { λ r. ⌜ r ≡ every markRight (now (marks .entry)) ⌝ }
+    ensures { λ r. ⌜ r ≡ all markRight (now (marks .entry)) ⌝ }
 {
+    let mut right = true;
     let mut i = 0;
     while i < marks.len() {
         if marks[i] > 1 {
-            return false;
+            right = false;
         }
         i += 1;
     }
-    true
+    right
 }
 
 // Whether the three columns are a valid table.

@@ -1,7 +1,6 @@
 -- The worked examples hold: each is proved in the crate of its definitions, and they are put together here.
 -- Assumes nothing.
-use Rattle.crc.proofs.Worked.{w1, w2, w3, w4}
-use Rattle.ebus.proofs.Worked.{w5, w6}
+use Rattle.ebus.proofs.Worked.{w1, w2, w3, w4, w5, w6}
 use Rattle.exchange.proofs.Worked.{w7-judged, w7-data, w8-judged}
 use Rattle.fastmodbus.proofs.Worked.{w9, w10, w11}
 use Rattle.devices.proofs.Worked.{w12, w13, w14}

@@ -1,2 +1,2 @@
--- The worked examples that document 01 marks W.
+-- The worked examples W1 to W14.
 pub mod Rows

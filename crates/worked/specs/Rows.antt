@@ -1,13 +1,12 @@
--- Document 01, "Examples on each side of the edge": the rows marked W, together, in the paper's order. The proof is in
--- proofs/All.antt.
+-- The worked examples W1 to W14 of docs/RULES.md, together and in order. The proof is in proofs/All.antt.
 -- Assumes nothing.
 use mathlib.Core.Path.{_≡_}
 use mathlib.Core.List.{List, [], _∷_}
 use Prim.Native.Nat.{ℕ, suc, _≤_}
 use Rattle.refusal.specs.Number.{busError, at-place}
-use Rattle.refusal.specs.Output.{starting}
-use Rattle.crc.specs.Check.{ebusCheck}
-use Rattle.crc.specs.Escape.{expanded}
+use Rattle.lists.specs.Starting.{starting}
+use Rattle.ebus.specs.Check.{ebusCheck}
+use Rattle.ebus.specs.Escape.{expanded}
 use Rattle.ebus.specs.declared.address.ExchangeKind.the-variants.{Broadcast, InitiatorInitiator, InitiatorTarget}
 use Rattle.ebus.specs.Address.{kindOf}
 use Rattle.exchange.specs.Exchange.{accepted, rejected, judged}
@@ -39,37 +38,37 @@ abbrev pub entries : ℕ → ℕ → ℕ → List ℕ
 entries x y z = x ∷ y ∷ z ∷ []
 
 pub record Rows : Type 0 where
-  -- W1 check byte of 10 08 B5 11 01 01 is 89. W2 of AA it is EC. W3 of A9 it is ED. W4 of nothing it is 00.
+  -- W1 to W4: check bytes, of a command, of each byte that is escaped, and of no byte (rules E1, E2)
   pub w1 : ebusCheck (0x10 ∷ 0x08 ∷ 0xB5 ∷ 0x11 ∷ 0x01 ∷ 0x01 ∷ []) ≡ 0x89
   pub w2 : ebusCheck (0xAA ∷ []) ≡ 0xEC
   pub w3 : ebusCheck (0xA9 ∷ []) ≡ 0xED
   pub w4 : ebusCheck [] ≡ 0x00
-  -- W5 A9 AA goes out as A9 00 A9 01.
+  -- W5: both escapes on the wire (rule E3)
   pub w5 : expanded (0xA9 ∷ 0xAA ∷ []) ≡ 0xA9 ∷ 0x00 ∷ 0xA9 ∷ 0x01 ∷ []
-  -- W6 kinds: FE broadcast, 10 initiator/initiator, 08 initiator/target.
+  -- W6: a destination of each kind (rule E8)
   pub w6 : (kindOf 0xFE ≡ Broadcast) × (kindOf 0x10 ≡ InitiatorInitiator) × (kindOf 0x08 ≡ InitiatorTarget)
-  -- W7 10 08 B5 11 01 01 89 00 01 2A B1 00 AA: accepted, data 2A, one attempt each, 13 bytes read.
+  -- W7: a whole exchange, whatever the buffers' lengths, and its reply's data (rules E12, E16, E17)
   pub w7 : (command first second : ℕ) → 22 ≤ command → 18 ≤ first → 18 ≤ second
       → judged (exchangeWith 0x00) command first second ≡ accepted InitiatorTarget 1 1 13 commandSent replySent []
   pub w7-data : (first second : List ℕ) → replyData (starting replySent first) second 1 ≡ 0x2A ∷ []
-  -- W8 the same with 55 for the first 00: number 12 at place 7.
+  -- W8: with a byte that acknowledges nothing it is a bus error at that byte (rule E13)
   pub w8 : (command first second : ℕ) → 22 ≤ command → 18 ≤ first → 18 ≤ second → judged (exchangeWith 0x55) command first second ≡ rejected (at-place busError 7)
-  -- W9 FD 46 01 13 90 and FD 46 02 53 91 are the requests; W10 FD 46 04 D3 93 is end.
+  -- W9 and W10: the two requests and the end, as they are written and as they are read (rules F3, F4)
   pub w9 : (requestFrame Start ≡ 0xFD ∷ 0x46 ∷ 0x01 ∷ 0x13 ∷ 0x90 ∷ []) × (requestFrame Continue ≡ 0xFD ∷ 0x46 ∷ 0x02 ∷ 0x53 ∷ 0x91 ∷ [])
       × (readRequest (0xFD ∷ 0x46 ∷ 0x01 ∷ 0x13 ∷ 0x90 ∷ []) ≡ Asked Start) × (readRequest (0xFD ∷ 0x46 ∷ 0x02 ∷ 0x53 ∷ 0x91 ∷ []) ≡ Asked Continue)
   pub w10 : (endFrame ≡ 0xFD ∷ 0x46 ∷ 0x04 ∷ 0xD3 ∷ 0x93 ∷ []) × (readAnswer (0xFD ∷ 0x46 ∷ 0x04 ∷ 0xD3 ∷ 0x93 ∷ []) ≡ End)
-  -- W11 FD 46 03 00 01 EB 37 0C CE DC: serial 0001EB37, address 0C.
+  -- W11: a device found, written and read (rule F4)
   pub w11 : (foundFrame 0x0001EB37 0x0C ≡ 0xFD ∷ 0x46 ∷ 0x03 ∷ 0x00 ∷ 0x01 ∷ 0xEB ∷ 0x37 ∷ 0x0C ∷ 0xCE ∷ 0xDC ∷ [])
       × (readAnswer (0xFD ∷ 0x46 ∷ 0x03 ∷ 0x00 ∷ 0x01 ∷ 0xEB ∷ 0x37 ∷ 0x0C ∷ 0xCE ∷ 0xDC ∷ []) ≡ Found 0x0001EB37 0x0C)
-  -- W12 serials 0001EB37, 5, 9: listed 5, 9, 0001EB37 in 4 requests, under any cap that allows as many.
+  -- W12: three devices, listed by rising serial, under any cap of 4 or more (rule D8)
   pub w12 : (a b c p q r x y z more : ℕ)
-      → (scanCall (suc (suc (suc (suc more)))) (entries p q r) (entries x y z) (threeDevices a b c) .answer ≡ Complete 4)
+      → (scanCall (suc (suc (suc (suc more)))) (entries p q r) (entries x y z) (threeDevices a b c) .scanned ≡ Complete 4)
       × (scanCall (suc (suc (suc (suc more)))) (entries p q r) (entries x y z) (threeDevices a b c) .serials ≡ 5 ∷ 9 ∷ 0x0001EB37 ∷ [])
       × (scanCall (suc (suc (suc (suc more)))) (entries p q r) (entries x y z) (threeDevices a b c) .addresses ≡ b ∷ c ∷ a ∷ [])
-  -- W13 cap 3 lists the same, Unfinished, 3.
+  -- W13: a cap of as many requests as devices lists them all and does not hear the end (rule D8)
   pub w13 : (a b c p q r x y z : ℕ)
-      → (scanCall 3 (entries p q r) (entries x y z) (threeDevices a b c) .answer ≡ Unfinished 3)
+      → (scanCall 3 (entries p q r) (entries x y z) (threeDevices a b c) .scanned ≡ Unfinished 3)
       × (scanCall 3 (entries p q r) (entries x y z) (threeDevices a b c) .serials ≡ 5 ∷ 9 ∷ 0x0001EB37 ∷ [])
       × (scanCall 3 (entries p q r) (entries x y z) (threeDevices a b c) .addresses ≡ b ∷ c ∷ a ∷ [])
-  -- W14 no device, cap 1: Nobody, 1.
-  pub w14 : scanCall 1 [] [] (columns [] [] []) .answer ≡ Nobody 1
+  -- W14: where there is no device, one request tells (rule D8)
+  pub w14 : scanCall 1 [] [] (columns [] [] []) .scanned ≡ Nobody 1

@@ -3,41 +3,47 @@
 
 use std::fmt::UpperHex;
 use std::hint::black_box;
+use std::rc::Rc;
 use std::slice::from_raw_parts;
 
 use moortinker::sys;
 
-use crate::measure::{interleave, Candidate};
-use crate::peers::{peer_ebus_check, peer_ebus_check_wide};
+use crate::case::{Candidate, Case, OURS, SECOND};
+use crate::peers::{crc_crate, peer_ebus_check, peer_ebus_check_wide};
 use crate::peers::{peer_modbus_check, peer_modbus_check_wide, Check};
 use crate::random::Random;
-use crate::report::{Case, OURS};
+
+pub const MODBUS: &str = "modbus-check";
+pub const EBUS: &str = "ebus-check";
+/// The table loop in C, and its other form.
+pub const C: &str = "c";
+pub const C_WIDE: &str = "c-wide";
 
 /// So many different frames of a size are gone over in turn.
 const FRAMES: usize = 128;
 
-pub fn modbus(size: usize, crc_crate: Option<Check<u16>>) -> Result<Case, String> {
+pub fn modbus(size: usize) -> Result<Case, String> {
     let mut checks: Vec<(&str, Check<u16>)> = vec![
         (OURS, sys::moor_modbus_check),
-        ("c", peer_modbus_check),
-        ("c-wide", peer_modbus_check_wide),
-        ("rust", second_modbus_check),
+        (C, peer_modbus_check),
+        (C_WIDE, peer_modbus_check_wide),
+        (SECOND, second_modbus_check),
     ];
-    checks.extend(crc_crate.map(|check| ("crc-crate", check)));
-    measure("modbus-check", size, &checks)
+    checks.extend(crc_crate()?.map(|check| ("crc-crate", check)));
+    case(MODBUS, size, &checks)
 }
 
 pub fn ebus(size: usize) -> Result<Case, String> {
     let checks: [(&str, Check<u8>); 4] = [
         (OURS, sys::moor_ebus_check),
-        ("c", peer_ebus_check),
-        ("c-wide", peer_ebus_check_wide),
-        ("rust", second_ebus_check),
+        (C, peer_ebus_check),
+        (C_WIDE, peer_ebus_check_wide),
+        (SECOND, second_ebus_check),
     ];
-    measure("ebus-check", size, &checks)
+    case(EBUS, size, &checks)
 }
 
-fn measure<T>(
+fn case<T>(
     name: &'static str,
     size: usize,
     checks: &[(&'static str, Check<T>)],
@@ -46,27 +52,27 @@ where
     T: Copy + PartialEq + UpperHex + 'static,
 {
     let mut random = Random::new(size as u64);
-    let frames: Vec<Vec<u8>> = (0..FRAMES).map(|_| random.bytes(size)).collect();
-    let frames = &frames;
-    compare(name, checks, frames)?;
-    let mut candidates: Vec<Candidate> = checks
+    let frames: Rc<[Vec<u8>]> = (0..FRAMES).map(|_| random.bytes(size)).collect();
+    compare(name, checks, &frames)?;
+    let candidates = checks
         .iter()
-        .map(|&(name, check)| Candidate::new(name, move |passes| go_over(check, frames, passes)))
+        .map(|&(name, check)| {
+            let frames = Rc::clone(&frames);
+            Candidate::new(name, move || go_over(check, &frames))
+        })
         .collect();
-    let timings = interleave(FRAMES, &mut candidates);
     Ok(Case {
         name,
         size,
-        timings,
+        calls: FRAMES,
+        candidates,
     })
 }
 
-fn go_over<T>(check: Check<T>, frames: &[Vec<u8>], passes: usize) {
+fn go_over<T>(check: Check<T>, frames: &[Vec<u8>]) {
     let check = black_box(check);
-    for _ in 0..passes {
-        for frame in frames {
-            black_box(call(check, frame));
-        }
+    for frame in frames {
+        black_box(call(check, frame));
     }
 }
 
@@ -75,7 +81,7 @@ fn call<T>(check: Check<T>, frame: &[u8]) -> T {
     unsafe { check(frame.as_ptr(), frame.len()) }
 }
 
-/// Holds every candidate to our answers on the very frames to be timed.
+/// Holds every candidate to our answers on the very frames to be measured.
 fn compare<T: Copy + PartialEq + UpperHex>(
     name: &str,
     checks: &[(&'static str, Check<T>)],

@@ -17,9 +17,18 @@ const ACK: u8 = 0x00;
 const NACK: u8 = 0xFF;
 const SYN: u8 = 0xAA;
 
+/// The exchanges of a size: long or short ones.
+pub fn of(size: usize) -> Result<Vec<Vec<u8>>, String> {
+    match size {
+        LONG => Ok(long()),
+        SHORT => Ok(short()),
+        _ => Err(format!("there are no exchanges of size {size}")),
+    }
+}
+
 /// LEN is 16 and most data bytes are A9 or AA; command and reply are each
 /// NACKed once, their check byte being wrong every other time.
-pub fn long() -> Vec<Vec<u8>> {
+fn long() -> Vec<Vec<u8>> {
     let mut random = Random::new(1);
     let mut runs = Vec::new();
     while runs.len() < EXCHANGES {
@@ -41,7 +50,7 @@ pub fn long() -> Vec<Vec<u8>> {
 }
 
 /// One attempt each, and LEN is 1 to 4.
-pub fn short() -> Vec<Vec<u8>> {
+fn short() -> Vec<Vec<u8>> {
     let mut random = Random::new(2);
     let mut runs = Vec::new();
     while runs.len() < EXCHANGES {
@@ -56,14 +65,14 @@ pub fn short() -> Vec<Vec<u8>> {
     runs
 }
 
-/// The mean number of raw bytes.
-pub fn mean(runs: &[Vec<u8>]) -> usize {
-    runs.iter().map(Vec::len).sum::<usize>() / runs.len()
-}
-
-/// The largest number of raw bytes.
-pub fn longest(runs: &[Vec<u8>]) -> usize {
-    runs.iter().map(Vec::len).max().unwrap_or(0)
+/// How long the exchanges of a size are.
+pub fn describe(size: usize) -> Result<String, String> {
+    let runs = of(size)?;
+    let longest = runs.iter().map(Vec::len).max().unwrap_or(0);
+    let mean = runs.iter().map(Vec::len).sum::<usize>() / runs.len();
+    Ok(format!(
+        "exchanges of {size} to {longest} raw bytes, {mean} in the mean"
+    ))
 }
 
 fn command(random: &mut Random, length: usize, flaw: u8, run: &mut Vec<u8>) {

@@ -2,13 +2,16 @@
 //! Neither clears its buffers between calls.
 
 use std::hint::black_box;
+use std::rc::Rc;
 
 use moortinker::sys;
 use second::exchange;
 use second::Refusal;
 
-use crate::measure::{interleave, Candidate};
-use crate::report::{Case, OURS};
+use crate::case::{Candidate, Case, OURS, SECOND};
+use crate::exchanges;
+
+pub const JUDGE: &str = "judge";
 
 /// The three buffers that a judge is lent.
 #[derive(Clone, Debug, Default, PartialEq)]
@@ -20,36 +23,35 @@ struct Buffers {
 
 type Answer = Result<exchange::Judged, Refusal>;
 
-/// Times the judge on exchanges of at least `size` raw bytes.
-pub fn judge(size: usize, runs: &[Vec<u8>]) -> Result<Case, String> {
-    compare(size, runs)?;
-    let (mut own, mut theirs) = (Buffers::default(), Buffers::default());
-    let mut candidates = [
-        Candidate::new(OURS, |passes| go_over(judge_ours, runs, &mut own, passes)),
-        Candidate::new("rust", |passes| {
-            go_over(judge_second, runs, &mut theirs, passes)
-        }),
+/// The judge on exchanges of at least `size` raw bytes: long or short ones.
+pub fn judge(size: usize) -> Result<Case, String> {
+    let runs: Rc<[Vec<u8>]> = exchanges::of(size)?.into();
+    compare(size, &runs)?;
+    let calls = runs.len();
+    let candidates = vec![
+        candidate(OURS, judge_ours, Rc::clone(&runs)),
+        candidate(SECOND, judge_second, runs),
     ];
-    let timings = interleave(runs.len(), &mut candidates);
     Ok(Case {
-        name: "judge",
+        name: JUDGE,
         size,
-        timings,
+        calls,
+        candidates,
     })
 }
 
-fn go_over<T>(
+fn candidate<T: 'static>(
+    name: &'static str,
     judge: fn(&[u8], &mut Buffers) -> T,
-    runs: &[Vec<u8>],
-    buffers: &mut Buffers,
-    passes: usize,
-) {
-    let judge = black_box(judge);
-    for _ in 0..passes {
-        for run in runs {
-            black_box(judge(run, black_box(buffers)));
+    runs: Rc<[Vec<u8>]>,
+) -> Candidate {
+    let mut buffers = Buffers::default();
+    Candidate::new(name, move || {
+        let judge = black_box(judge);
+        for run in runs.iter() {
+            black_box(judge(run, black_box(&mut buffers)));
         }
-    }
+    })
 }
 
 fn judge_ours(run: &[u8], buffers: &mut Buffers) -> sys::Judged {
@@ -84,7 +86,7 @@ fn judge_second(run: &[u8], buffers: &mut Buffers) -> Answer {
 }
 
 /// Holds both to the same answers and buffers on the very exchanges to be
-/// timed, each of which must be accepted and of the size named.
+/// measured, each of which must be accepted and of the size named.
 fn compare(size: usize, runs: &[Vec<u8>]) -> Result<(), String> {
     let (mut own, mut theirs) = (Buffers::default(), Buffers::default());
     for run in runs {
@@ -92,7 +94,7 @@ fn compare(size: usize, runs: &[Vec<u8>]) -> Result<(), String> {
         let theirs_answer = judge_second(run, &mut theirs);
         if theirs_answer != Ok(plain(&answer)?) || own != theirs {
             return Err(format!(
-                "judge of {run:02X?}: {OURS} {answer:?} {own:?}, rust {theirs_answer:?} {theirs:?}"
+                "judge of {run:02X?}: {OURS} {answer:?} {own:?}, {SECOND} {theirs_answer:?} {theirs:?}"
             ));
         }
         if run.len() < size {

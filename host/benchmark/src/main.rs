@@ -1,100 +1,150 @@
 //! The benchmarks of the archive; `host/bench` builds and runs them.
 //!
 //! Each candidate's answers are first held to the archive's on the very input
-//! that is then timed; a difference ends the run with status 1. A missed bar
+//! that is then measured; a difference ends the run with status 1. A missed bar
 //! does so only with `--strict`.
 
+mod bars;
+mod case;
+mod cases;
 mod checks;
+mod contest;
+mod count;
 mod exchanges;
 mod judge;
+mod machine;
 mod measure;
 mod peers;
 mod random;
 mod report;
 mod scan;
+mod table;
 
 use std::env;
 use std::process::ExitCode;
 
-use peers::Check;
-use report::{Case, Ratio};
+use count::Alone;
+use report::Measured;
 
-const MODBUS_SIZES: [usize; 4] = [8, 64, 256, 4096];
-const EBUS_SIZES: [usize; 4] = [8, 20, 64, 256];
+const USAGE: &str = "usage: benchmark [--strict] [CASE..]
+       benchmark count CASE SIZE CANDIDATE PASSES";
 
 fn main() -> ExitCode {
     let words: Vec<String> = env::args().skip(1).collect();
-    let strict = !words.is_empty();
-    if words.iter().any(|word| word != "--strict") {
-        eprintln!("usage: benchmark [--strict]");
-        return ExitCode::from(2);
-    }
-    let (cases, ratios) = match measure_all() {
-        Ok(measured) => measured,
-        Err(difference) => {
-            eprintln!("benchmark: {difference}");
-            return ExitCode::FAILURE;
+    let words: Vec<&str> = words.iter().map(String::as_str).collect();
+    let done = match words[..] {
+        ["count", case, size, candidate, passes] => {
+            count::run_alone(case, size, candidate, passes).map(|()| true)
+        }
+        ["--strict", ref names @ ..] if known(names) => whole(names),
+        ref names if known(names) => whole(names).map(|_| true),
+        _ => {
+            eprintln!("{USAGE}");
+            return ExitCode::from(2);
         }
     };
+    match done {
+        Ok(true) => ExitCode::SUCCESS,
+        Ok(false) => ExitCode::FAILURE,
+        Err(difference) => {
+            eprintln!("benchmark: {difference}");
+            ExitCode::FAILURE
+        }
+    }
+}
+
+fn known(names: &[&str]) -> bool {
+    let case = |name: &&str| cases::ALL.iter().any(|(known, _)| known == name);
+    names.iter().all(case)
+}
+
+/// Measures the cases named, or all; the answer is whether every bar is held.
+fn whole(names: &[&str]) -> Result<bool, String> {
+    println!("processor: {}", machine::processor());
+    println!("load of the last minute: {}", machine::load());
+    let measured = measure_all(names)?;
     println!();
-    report::print_table(&cases);
+    report::print_table(&measured);
     println!();
-    print_buffers();
+    print_notes();
     println!();
+    let ratios = report::ratios(&measured);
     report::print_ratios(&ratios);
+    report::print_growth(&measured);
+    report::print_steps(&bars::steps(&measured));
     println!();
-    let held = report::print_bars(&ratios);
-    if strict && !held {
-        return ExitCode::FAILURE;
-    }
-    ExitCode::SUCCESS
+    Ok(bars::print(&bars::all(&measured, &ratios)))
 }
 
-/// All cases, and the archive's speed over each peer's.
-fn measure_all() -> Result<(Vec<Case>, Vec<Ratio>), String> {
-    let crc_crate = find_crc_crate()?;
-    let mut cases = Vec::new();
-    for size in MODBUS_SIZES {
-        cases.push(checks::modbus(size, crc_crate)?);
-    }
-    for size in EBUS_SIZES {
-        cases.push(checks::ebus(size)?);
-    }
-    for (size, runs) in [
-        (exchanges::LONG, exchanges::long()),
-        (exchanges::SHORT, exchanges::short()),
-    ] {
-        let (mean, longest) = (exchanges::mean(&runs), exchanges::longest(&runs));
-        println!("judge {size}: exchanges of {size} to {longest} raw bytes, {mean} in the mean");
-        cases.push(judge::judge(size, &runs)?);
-    }
-    let scan = scan::scan()?;
-    let over_bus = scan::over_bus(&scan);
-    cases.push(scan);
-    let mut ratios: Vec<Ratio> = cases.iter().flat_map(Case::ratios).collect();
-    ratios.push(over_bus);
-    Ok((cases, ratios))
-}
-
-fn find_crc_crate() -> Result<Option<Check<u16>>, String> {
-    let found = peers::crc_crate()?;
-    if found.is_none() {
+/// The times of all cases named, and then their instructions.
+fn measure_all(names: &[&str]) -> Result<Vec<Measured>, String> {
+    if peers::crc_crate()?.is_none() {
         println!("skipped the crc crate: it was not built");
     }
-    Ok(found)
+    let mut all = Vec::new();
+    let mut alone = Vec::new();
+    for (name, sizes) in cases::ALL {
+        if !names.is_empty() && !names.contains(&name) {
+            continue;
+        }
+        for &size in sizes {
+            let (measured, candidates) = time_case(name, size)?;
+            all.push(measured);
+            alone.extend(candidates);
+        }
+    }
+    match count::instructions(&alone) {
+        Ok(counts) => share_out(counts, &mut all),
+        Err(reason) => println!("skipped the instructions: {reason}"),
+    }
+    Ok(all)
 }
 
-fn print_buffers() {
+/// Times a case, and names its candidates for the counting.
+fn time_case(name: &str, size: usize) -> Result<(Measured, Vec<Alone>), String> {
+    if name == judge::JUDGE {
+        println!("{name} {size}: {}", exchanges::describe(size)?);
+    }
+    let mut case = cases::make(name, size)?;
+    let timings = measure::interleave(&mut case);
+    let candidates = case.candidates.iter();
+    let alone = candidates
+        .map(|candidate| Alone {
+            case: case.name,
+            size: case.size,
+            candidate: candidate.name,
+            calls: case.calls,
+        })
+        .collect();
+    let measured = Measured {
+        case: case.name,
+        size: case.size,
+        timings,
+        counts: None,
+    };
+    Ok((measured, alone))
+}
+
+/// Gives each case the counts of its candidates; they stand in the same order.
+fn share_out(counts: Vec<f64>, all: &mut [Measured]) {
+    let mut counts = counts.into_iter();
+    for measured in all {
+        let own = counts.by_ref().take(measured.timings.len());
+        measured.counts = Some(own.collect());
+    }
+}
+
+fn print_notes() {
     println!(
         "Answers were compared before each timing, on the same input. The judge's buffers and"
     );
     println!("the scan's lists are not cleared between calls, neither ours nor theirs.");
     println!(
-        "The bus takes {:.3} s for a scan: {} requests of {} bits at {} baud.",
-        scan::bus_time() / 1e9,
-        scan::REQUESTS,
+        "The bus takes {:.3} s for a scan of {} devices: {} requests of {} bits at {} baud.",
+        scan::bus_time(scan::MOST) / 1e9,
+        scan::MOST,
+        scan::requests(scan::MOST),
         scan::BITS_PER_REQUEST,
         scan::BAUD
     );
-    println!("A ratio is our speed over the peer's, the median over the rounds.");
 }

@@ -6,24 +6,13 @@
 use std::ffi::{c_int, c_long};
 use std::time::Duration;
 
+use crate::case::{Candidate, Case};
+
 /// Odd, so that a median is one of the measured values.
 pub const ROUNDS: usize = 101;
 
 /// How long a candidate runs in a round, at least.
 const SLICE: Duration = Duration::from_millis(3);
-
-/// One way to do the work: `run` goes so many times over all inputs.
-pub struct Candidate<'a> {
-    pub name: &'static str,
-    pub run: Box<dyn FnMut(usize) + 'a>,
-}
-
-impl<'a> Candidate<'a> {
-    pub fn new(name: &'static str, run: impl FnMut(usize) + 'a) -> Self {
-        let run = Box::new(run);
-        Candidate { name, run }
-    }
-}
 
 /// Nanoseconds for one call, round by round.
 pub struct Timing {
@@ -51,16 +40,16 @@ impl Timing {
     }
 }
 
-/// Times the candidates against each other; `calls` is how many calls are made
-/// in going over all inputs once.
-pub fn interleave(calls: usize, candidates: &mut [Candidate]) -> Vec<Timing> {
+/// Times the candidates of a case against each other.
+pub fn interleave(case: &mut Case) -> Vec<Timing> {
+    let candidates = &mut case.candidates;
     let passes = enough_passes(candidates);
+    let calls = (passes * case.calls) as f64;
     let mut timings: Vec<Timing> = candidates.iter().map(no_rounds).collect();
     for round in 0..ROUNDS {
         for turn in 0..candidates.len() {
             let who = (round + turn) % candidates.len();
             let time = time(&mut candidates[who], passes);
-            let calls = (passes * calls) as f64;
             timings[who].rounds.push(time.as_nanos() as f64 / calls);
         }
     }
@@ -87,7 +76,7 @@ fn enough_passes(candidates: &mut [Candidate]) -> usize {
 
 fn time(candidate: &mut Candidate, passes: usize) -> Duration {
     let start = thread_time();
-    (candidate.run)(passes);
+    candidate.run(passes);
     thread_time() - start
 }
 

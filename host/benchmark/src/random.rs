@@ -25,4 +25,16 @@ impl Random {
     pub fn bytes(&mut self, length: usize) -> Vec<u8> {
         (0..length).map(|_| self.byte()).collect()
     }
+
+    /// So many different serials.
+    pub fn serials(&mut self, count: usize) -> Vec<u32> {
+        let mut serials = Vec::with_capacity(count);
+        while serials.len() < count {
+            let serial = self.next() as u32 >> 4;
+            if !serials.contains(&serial) {
+                serials.push(serial);
+            }
+        }
+        serials
+    }
 }

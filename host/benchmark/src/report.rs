@@ -1,99 +1,146 @@
-//! What is printed: a table for people, then a line for each ratio, then a line
-//! for each bar.
+//! What is printed: a table for people, then a line for each ratio.
 
-use crate::exchanges::LONG;
+use crate::bars::Step;
+use crate::case::OURS;
+use crate::contest::CONTEST;
 use crate::measure::{Timing, ROUNDS};
+use crate::scan;
 
-/// The name of the first candidate of each case.
-pub const OURS: &str = "archive";
-
-/// One case at one size, with the archive's timing first.
-pub struct Case {
-    pub name: &'static str,
+/// One case at one size, with the archive first.
+pub struct Measured {
+    pub case: &'static str,
     pub size: usize,
     pub timings: Vec<Timing>,
+    /// Instructions for one call of each, where they were counted.
+    pub counts: Option<Vec<f64>>,
 }
 
-/// The archive's speed over a peer's.
+/// The archive's speed over a peer's, and the peer's instructions over the
+/// archive's.
 pub struct Ratio {
     pub case: &'static str,
     pub size: usize,
     pub peer: &'static str,
-    pub value: f64,
+    pub speed: f64,
+    pub instructions: Option<f64>,
 }
 
-impl Case {
-    pub fn ratios(&self) -> Vec<Ratio> {
+impl Measured {
+    /// The archive's time.
+    pub fn ours(&self) -> f64 {
+        self.timings[0].median()
+    }
+
+    fn count(&self, at: usize) -> Option<f64> {
+        self.counts.as_ref().map(|counts| counts[at])
+    }
+
+    fn ratios(&self) -> Vec<Ratio> {
         let ours = &self.timings[0];
-        let peers = self.timings[1..].iter();
-        peers
-            .map(|peer| Ratio {
-                case: self.name,
+        let mut ratios = Vec::new();
+        for (at, peer) in self.timings.iter().enumerate().skip(1) {
+            let counts = self.count(0).zip(self.count(at));
+            ratios.push(Ratio {
+                case: self.case,
                 size: self.size,
                 peer: peer.name,
-                value: ours.speed_over(peer),
-            })
-            .collect()
+                speed: ours.speed_over(peer),
+                instructions: counts.map(|(own, theirs)| theirs / own),
+            });
+        }
+        if self.case == scan::SCAN {
+            ratios.push(self.over_bus());
+        }
+        ratios
+    }
+
+    /// How many times faster than the bus the archive scans.
+    fn over_bus(&self) -> Ratio {
+        Ratio {
+            case: self.case,
+            size: self.size,
+            peer: "bus",
+            speed: scan::bus_time(self.size) / self.ours(),
+            instructions: None,
+        }
     }
 }
 
-pub fn print_table(cases: &[Case]) {
-    println!(
-        "Time for one call: the median of {ROUNDS} rounds, and how far the middle half of the"
-    );
-    println!("rounds is apart.");
+pub fn ratios(all: &[Measured]) -> Vec<Ratio> {
+    all.iter().flat_map(Measured::ratios).collect()
+}
+
+pub fn print_table(all: &[Measured]) {
+    let counted = all.iter().any(|one| one.counts.is_some());
+    let last = if counted { "  instructions" } else { "" };
+    println!("Time for one call: the median of {ROUNDS} rounds, and how far the middle half");
+    println!("of the rounds is apart.");
+    if counted {
+        println!("Instructions for one call, with the loop that makes the calls.");
+    }
     println!();
     println!(
-        "{:<14}{:>6}  {:<10}{:>14}{:>9}",
+        "{:<14}{:>6}  {:<10}{:>14}{:>9}{last}",
         "case", "size", "candidate", "ns per call", "spread"
     );
-    for case in cases {
-        for timing in &case.timings {
+    for one in all {
+        for (at, timing) in one.timings.iter().enumerate() {
+            let count = one.count(at).map(|count| format!("{count:>14.1}"));
             println!(
-                "{:<14}{:>6}  {:<10}{:>14.1}{:>8.1}%",
-                case.name,
-                case.size,
+                "{:<14}{:>6}  {:<10}{:>14.1}{:>8.1}%{}",
+                one.case,
+                one.size,
                 timing.name,
                 timing.median(),
-                timing.spread()
+                timing.spread(),
+                count.unwrap_or_default()
             );
         }
     }
 }
 
 pub fn print_ratios(ratios: &[Ratio]) {
+    println!("A ratio is our speed over the peer's, the median over the rounds. Behind it,");
+    println!("where counted, stand the peer's instructions over ours.");
+    println!();
     for ratio in ratios {
         let Ratio {
             case, size, peer, ..
         } = ratio;
-        println!("ratio {case} {size} {peer} {}", rounded(ratio.value));
+        let instructions = ratio.instructions.map(rounded);
+        println!(
+            "ratio {case} {size} {peer} {}{}",
+            rounded(ratio.speed),
+            instructions.map_or(String::new(), |value| format!(" instructions {value}"))
+        );
     }
 }
 
-/// Says of each bar whether it is held; the answer is whether all are.
-pub fn print_bars(ratios: &[Ratio]) -> bool {
-    let mut all = true;
-    for ratio in ratios {
-        let Some(bar) = bar(ratio) else { continue };
-        let held = ratio.value >= bar;
-        let word = if held { "held" } else { "missed" };
-        let Ratio {
-            case, size, peer, ..
-        } = ratio;
-        println!("bar {case} {size} {peer} {bar} {word}: {:.3}", ratio.value);
-        all &= held;
+/// How a contest grows with the keys.
+pub fn print_growth(all: &[Measured]) {
+    for one in all.iter().filter(|one| one.case == CONTEST) {
+        let keys = one.size as f64;
+        for (at, timing) in one.timings.iter().enumerate() {
+            let count = one.count(at).map(|count| count / keys);
+            println!(
+                "per-key {} {} {} {:.2} ns{}",
+                one.case,
+                one.size,
+                timing.name,
+                timing.median() / keys,
+                count.map_or(String::new(), |count| format!(", {count:.1} instructions"))
+            );
+        }
     }
-    all
 }
 
-/// What the ratio must reach, where a bar is set: on the judge it is set on long
-/// exchanges.
-fn bar(ratio: &Ratio) -> Option<f64> {
-    match (ratio.case, ratio.peer) {
-        ("modbus-check" | "ebus-check", "c") if ratio.size >= 64 => Some(0.95),
-        ("judge", "rust") if ratio.size == LONG => Some(1.0),
-        ("scan", "bus") => Some(200.0),
-        _ => None,
+/// The test of a table beside the step of a scan that a start makes behind it.
+pub fn print_steps(steps: &[Step]) {
+    for step in steps {
+        println!(
+            "step {} {OURS} {:.1} ns behind table-valid of {:.1} ns",
+            step.devices, step.behind, step.test
+        );
     }
 }
 

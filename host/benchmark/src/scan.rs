@@ -1,20 +1,17 @@
-//! A whole scan of a full device table: the archive, the second implementation,
-//! and the time that the bus itself takes. The lists of what was heard are not
+//! A whole scan of a device table: the archive, the second implementation, and
+//! the time that the bus itself takes. The lists of what was heard are not
 //! cleared between scans; a start sets the marks to 0.
-
-use std::hint::black_box;
 
 use moortinker::sys;
 use second::devices::{self, ScanEnd, Scanned};
 use second::Refusal;
 
-use crate::measure::{interleave, Candidate};
+use crate::case::{Candidate, Case, OURS, SECOND};
 use crate::random::Random;
-use crate::report::{Case, Ratio, OURS};
 
-pub const DEVICES: usize = sys::MOOR_MOST_DEVICES;
-/// One for each device, and one that hears the end.
-pub const REQUESTS: usize = DEVICES + 1;
+pub const SCAN: &str = "scan";
+/// The largest table.
+pub const MOST: usize = sys::MOOR_MOST_DEVICES;
 /// A request and its answer on the bus: document 000, "834 bits".
 pub const BITS_PER_REQUEST: usize = 834;
 pub const BAUD: usize = 115_200;
@@ -33,63 +30,42 @@ struct Bus {
 }
 
 impl Bus {
-    fn new(random: &mut Random) -> Self {
-        let mut serials = Vec::new();
-        while serials.len() < DEVICES {
-            let serial = random.next() as u32 >> 4;
-            if !serials.contains(&serial) {
-                serials.push(serial);
-            }
-        }
+    fn new(random: &mut Random, size: usize) -> Self {
         Bus {
-            serials,
-            addresses: random.bytes(DEVICES),
-            marks: vec![0; DEVICES],
-            found_serials: vec![0; DEVICES],
-            found_addresses: vec![0; DEVICES],
+            serials: random.serials(size),
+            addresses: random.bytes(size),
+            marks: vec![0; size],
+            found_serials: vec![0; size],
+            found_addresses: vec![0; size],
         }
     }
+}
+
+/// One for each device, and one that hears the end.
+pub fn requests(devices: usize) -> usize {
+    devices + 1
 }
 
 /// The time of a whole scan on the bus, in nanoseconds.
-pub fn bus_time() -> f64 {
-    (REQUESTS * BITS_PER_REQUEST) as f64 * 1e9 / BAUD as f64
+pub fn bus_time(devices: usize) -> f64 {
+    (requests(devices) * BITS_PER_REQUEST) as f64 * 1e9 / BAUD as f64
 }
 
-pub fn scan() -> Result<Case, String> {
-    let mut random = Random::new(247);
-    let mut own: Vec<Bus> = (0..TABLES).map(|_| Bus::new(&mut random)).collect();
+pub fn scan(size: usize) -> Result<Case, String> {
+    let mut random = Random::new(size as u64);
+    let mut own: Vec<Bus> = (0..TABLES).map(|_| Bus::new(&mut random, size)).collect();
     let mut theirs = own.clone();
-    compare(&mut own, &mut theirs)?;
-    let mut candidates = [
-        Candidate::new(OURS, |passes| go_over(scan_ours, &mut own, passes)),
-        Candidate::new("rust", |passes| go_over(scan_second, &mut theirs, passes)),
+    compare(size, &mut own, &mut theirs)?;
+    let candidates = vec![
+        Candidate::on_each(OURS, scan_ours, own),
+        Candidate::on_each(SECOND, scan_second, theirs),
     ];
-    let timings = interleave(TABLES, &mut candidates);
     Ok(Case {
-        name: "scan",
-        size: DEVICES,
-        timings,
+        name: SCAN,
+        size,
+        calls: TABLES,
+        candidates,
     })
-}
-
-/// How many times faster than the bus the archive scans.
-pub fn over_bus(case: &Case) -> Ratio {
-    Ratio {
-        case: case.name,
-        size: case.size,
-        peer: "bus",
-        value: bus_time() / case.timings[0].median(),
-    }
-}
-
-fn go_over<T>(scan: fn(&mut Bus) -> T, buses: &mut [Bus], passes: usize) {
-    let scan = black_box(scan);
-    for _ in 0..passes {
-        for bus in &mut *buses {
-            black_box(scan(black_box(bus)));
-        }
-    }
 }
 
 fn scan_ours(bus: &mut Bus) -> sys::Scanned {
@@ -123,13 +99,13 @@ fn scan_second(bus: &mut Bus) -> Result<Scanned, Refusal> {
     )
 }
 
-/// Holds both to the whole scan that is due on the very tables to be timed,
+/// Holds both to the whole scan that is due on the very tables to be measured,
 /// and to the same lists and marks.
-fn compare(own: &mut [Bus], theirs: &mut [Bus]) -> Result<(), String> {
+fn compare(size: usize, own: &mut [Bus], theirs: &mut [Bus]) -> Result<(), String> {
     let due = Scanned {
         end: ScanEnd::Complete,
-        requests: REQUESTS,
-        found: DEVICES,
+        requests: requests(size),
+        found: size,
     };
     for (own, theirs) in own.iter_mut().zip(theirs) {
         let answer = scan_ours(own);
@@ -138,7 +114,7 @@ fn compare(own: &mut [Bus], theirs: &mut [Bus]) -> Result<(), String> {
         let counts = (answer.requests, answer.found) == (due.requests, due.found);
         if !complete || !counts || theirs_answer != Ok(due) || own != theirs {
             return Err(format!(
-                "scan of {:?}: {OURS} {answer:?}, rust {theirs_answer:?}",
+                "scan of {:?}: {OURS} {answer:?}, {SECOND} {theirs_answer:?}",
                 own.serials
             ));
         }

@@ -43,29 +43,24 @@ pub fn modbus_check(session: &mut Session, bytes: &[u8]) {
 
 /// Initiator, reserved and kind of an address.
 pub fn address(session: &mut Session, address: u8) {
+    // SAFETY: no pointer is handed over.
+    let (initiator, reserved, kind) = unsafe {
+        (
+            sys::moor_is_initiator(address),
+            sys::moor_is_reserved(address),
+            sys::moor_kind(address),
+        )
+    };
+    let mut told = |function, archive: u8, second: u8| {
+        let compared = same("answer", &archive, &second);
+        session.settle(function, 0, compared, || hex(&[address]));
+        session.note(function, [second, 0, 0]);
+    };
     let second = ebus::is_initiator(address);
-    // SAFETY: no pointer is handed over.
-    let compared = same(
-        "answer",
-        &unsafe { sys::moor_is_initiator(address) },
-        &second,
-    );
-    session.settle(Function::IsInitiator, 0, compared, || hex(&[address]));
-    session.note(Function::IsInitiator, [u8::from(second), 0, 0]);
+    told(Function::IsInitiator, initiator.into(), second.into());
     let second = ebus::is_reserved(address);
-    // SAFETY: no pointer is handed over.
-    let compared = same(
-        "answer",
-        &unsafe { sys::moor_is_reserved(address) },
-        &second,
-    );
-    session.settle(Function::IsReserved, 0, compared, || hex(&[address]));
-    session.note(Function::IsReserved, [u8::from(second), 0, 0]);
-    let second = ebus::kind(address) as u8;
-    // SAFETY: no pointer is handed over.
-    let compared = same("answer", &unsafe { sys::moor_kind(address) }, &second);
-    session.settle(Function::Kind, 0, compared, || hex(&[address]));
-    session.note(Function::Kind, [second, 0, 0]);
+    told(Function::IsReserved, reserved.into(), second.into());
+    told(Function::Kind, kind, ebus::kind(address) as u8);
 }
 
 pub fn logical_at(session: &mut Session, run: &[u8], at: usize) {

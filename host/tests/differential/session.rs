@@ -1,7 +1,7 @@
 //! A run of the tests: its seed, the counts per function and number, and the
 //! comparison of what the archive and the second implementation did.
 
-use std::collections::BTreeMap;
+use std::collections::{BTreeMap, BTreeSet};
 use std::env;
 use std::fmt::Debug;
 
@@ -12,8 +12,6 @@ use crate::random::Random;
 const SEED: u64 = 0x000E_B052_0017;
 /// The inputs of a run that asks for no other number.
 const INPUTS: u64 = 6_000_000;
-/// Refusal numbers end here.
-const NUMBERS: usize = 18;
 
 /// Declares the functions of the C interface, each with the numbers that
 /// document 01 and the header let it give.
@@ -98,7 +96,7 @@ pub struct Session {
     seed: u64,
     inputs: u64,
     total: u64,
-    counts: Vec<[u64; NUMBERS]>,
+    counts: BTreeMap<(Function, u8), u64>,
     forms: BTreeMap<(Function, Form), u64>,
 }
 
@@ -116,7 +114,7 @@ impl Session {
             seed,
             inputs,
             total: 0,
-            counts: vec![[0; NUMBERS]; FUNCTIONS.len()],
+            counts: BTreeMap::new(),
             forms: BTreeMap::new(),
         }
     }
@@ -164,7 +162,7 @@ impl Session {
             );
         }
         self.total += 1;
-        self.counts[function as usize][usize::from(number)] += 1;
+        *self.counts.entry((function, number)).or_default() += 1;
     }
 
     /// Notes the form of an accepted answer.
@@ -174,18 +172,18 @@ impl Session {
 
     /// Prints the counts per function and number.
     pub fn print(&self) {
+        let met: BTreeSet<u8> = self.counts.keys().map(|key| key.1).collect();
         print!("{:20}", "");
-        for number in 0..NUMBERS {
+        for number in &met {
             print!("{number:>8}");
         }
         println!();
         for &(function, name, _) in FUNCTIONS {
             print!("{name:20}");
-            for count in self.counts[function as usize] {
-                if count == 0 {
-                    print!("{:>8}", ".");
-                } else {
-                    print!("{count:>8}");
+            for &number in &met {
+                match self.counts.get(&(function, number)) {
+                    Some(count) => print!("{count:>8}"),
+                    None => print!("{:>8}", "."),
                 }
             }
             println!();
@@ -200,24 +198,20 @@ impl Session {
     /// of answer was met.
     pub fn assert_all_reached(&self) {
         for &(function, name, numbers) in FUNCTIONS {
-            let counts = &self.counts[function as usize];
-            let reached: Vec<u8> = (0..)
-                .zip(counts)
-                .filter(|at| *at.1 > 0)
-                .map(|at| at.0)
-                .collect();
+            let reached = counted_of(&self.counts, function);
             assert_eq!(reached, numbers, "numbers that {name} gave");
         }
         for &(function, forms) in FORMS {
-            let met: Vec<Form> = self
-                .forms
-                .keys()
-                .filter(|key| key.0 == function)
-                .map(|key| key.1)
-                .collect();
+            let met = counted_of(&self.forms, function);
             assert_eq!(met, forms, "forms of answers of {function:?}");
         }
     }
+}
+
+/// What was counted of a function, in order.
+fn counted_of<T: Copy>(counts: &BTreeMap<(Function, T), u64>, function: Function) -> Vec<T> {
+    let of_function = counts.keys().filter(|key| key.0 == function);
+    of_function.map(|key| key.1).collect()
 }
 
 /// Compares one thing that the two sides of a call left.

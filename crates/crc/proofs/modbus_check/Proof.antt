@@ -1,19 +1,15 @@
 -- `crc::modbus_check` meets its contract. The loop's invariant: the check of all bytes is the check that the register
 -- gives over the bytes not yet read, and the register has 16 bits. Assumes nothing.
-use mathlib.Core.Path.{_≡_, refl, sym, ap, _∙_, subst}
-use mathlib.Core.List.{List, []}
-use Prim.Native.Nat.{ℕ, _+_, _-_, _/_, _%_, _^_, _≤_, _<_}
-use native.Mathlib.Nat.{mod-lt}
+use mathlib.Core.Path.{_≡_, refl, sym, ap, _∙_}
+use Prim.Native.Nat.{_-_, _^_, _≤_, _<_}
 use native.Mathlib.Omega.{arith}
-use lib.Bits.{bitXor}
 use lib.Dec.{lit<}
 use lib.ListN.{length, getD, drop, drop-of-length-le}
-use borrow.Author.Needs.{needs}
-use Rattle.crc.specs.Register.{right, step, steps}
+use Rattle.crc.specs.Register.{right}
 use Rattle.crc.specs.Check.{modbusPolynomial, modbusBytes, modbusCheck}
 use Rattle.crc.proofs.Table.{IsTable}
-use Rattle.crc.proofs.Byte.{modbus-entry-lt, modbus-lt}
-use Rattle.crc.proofs.Turn.{modbus-turn}
+use Rattle.crc.proofs.Byte.{modbus-table, modbus-entry-lt, modbus-lt, modbus-turn}
+use borrow.Author.Needs.{needs}
 use Rattle.crc.proofs.modbus_check.Statement.{statement}
 use Rattle.crc.proofs.modbus_check.Tie as tie
 
@@ -24,15 +20,17 @@ Inv-loop bytes table register₀ i₀ register i =
 abbrev μ-loop : tie.MeasureT-loop
 μ-loop bytes table register₀ i₀ register i = length bytes - i
 
+modbus-table-requires : tie.Need-modbus-table-requires Inv-loop μ-loop
+modbus-table-requires c κs = search needs
+
 loop-holds : tie.Need-loop-holds Inv-loop μ-loop
-unfolding step steps
-loop-holds c = (record { size = refl; holds = tt }, omega arith, lit< tt, refl)
+loop-holds c = (modbus-table (c .modbus-table .ensures), omega arith, lit< tt, refl)
 
 shared-slice-read-at : tie.Need-shared-slice-read-at Inv-loop μ-loop
 shared-slice-read-at c = omega arith
 
 cast-at : tie.Need-cast-at Inv-loop μ-loop
-cast-at c = omega (arith, c .shared-slice-known .given (c .before .before .loop .i))
+cast-at c = omega (arith, c .shared-slice-known2 .given (c .before .before .loop .i))
 
 cast-at-2 : tie.Need-cast-at-2 Inv-loop μ-loop
 cast-at-2 c = omega arith
@@ -46,8 +44,8 @@ array-read-register c = omega arith
 cast-register : tie.Need-cast-register Inv-loop μ-loop
 cast-register c =
     let l = c .before .before .loop in
-    let b = getD (c .before .before .before .args .bytes .now) (l .i) 0 in
-    let hb : b < 256 = omega (arith, c .shared-slice-known .given (l .i)) in
+    let b = getD (c .before .before .before .before .before .args .bytes .now) (l .i) 0 in
+    let hb : b < 256 = omega (arith, c .shared-slice-known2 .given (l .i)) in
     omega (arith, modbus-entry-lt (l .inv .0) (l .register) b (l .inv .2) hb)
 
 add-i : tie.Need-add-i Inv-loop μ-loop
@@ -58,11 +56,11 @@ loop-less c = omega arith
 
 loop-again : tie.Need-loop-again Inv-loop μ-loop
 loop-again c =
-    let bytes = c .before .before .before .args .bytes .now in
+    let bytes = c .before .before .before .before .before .args .bytes .now in
     let i = c .before .before .loop .i in
     let r = c .before .before .loop .register in
     let hi : i < length bytes = c .before .loop-test .taken in
-    let hb : getD bytes i 0 < 256 = omega (arith, c .shared-slice-known .given i) in
+    let hb : getD bytes i 0 < 256 = omega (arith, c .shared-slice-known2 .given i) in
     let hr : r < 2 ^ 16 = c .before .before .loop .inv .2 in
     let t = c .before .before .loop .inv .0 in
     (t, omega arith, modbus-lt t r (getD bytes i 0) hr hb, sym (modbus-turn t bytes i r hi hb hr) ∙ c .before .before .loop .inv .3)
@@ -73,7 +71,7 @@ cast-result c = omega arith
 returns : tie.Need-returns Inv-loop μ-loop
 unfolding modbusBytes modbusCheck
 returns c =
-    sym (ap (modbusBytes (c .before .loop .register)) (drop-of-length-le (c .before .before .args .bytes .now) (c .loop-test .left))) ∙ c .before .loop .inv .3
+    sym (ap (modbusBytes (c .before .loop .register)) (drop-of-length-le (c .before .before .before .before .args .bytes .now) (c .loop-test .left))) ∙ c .before .loop .inv .3
 
 pub modbus-check-spec : {M : Type 1} → statement M
 modbus-check-spec =
@@ -81,6 +79,7 @@ modbus-check-spec =
     (tie.spec
     Inv-loop
     μ-loop
+    modbus-table-requires
     loop-holds
     shared-slice-read-at
     cast-at

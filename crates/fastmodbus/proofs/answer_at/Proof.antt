@@ -1,10 +1,8 @@
--- `fastmodbus::answer_at` meets its contract. A frame that the head check accepts as 03 has ten bytes, so that its serial
--- and its address can be read. Assumes nothing.
-use mathlib.Core.Path.{sym, ap, _∙_}
+-- `fastmodbus::answer_at` meets its contract. A frame that the head check accepts as 03 has ten bytes, so that what it
+-- carries can be read. Assumes nothing.
+use mathlib.Core.Path.{sym, _∙_}
 use native.Mathlib.Omega.{arith}
-use Rattle.fastmodbus.specs.Layout.{deviceFound, endOfScan, lengthFor}
-use Rattle.fastmodbus.proofs.Accepted.{accepted}
-use Rattle.fastmodbus.proofs.Outcomes.{answer-refused, answer-end, answer-found, answer-over}
+use Rattle.fastmodbus.proofs.ReaderOutcomes.{answer-refused, answer-end, found-long, answer-found}
 use borrow.Author.Needs.{needs}
 use Rattle.fastmodbus.proofs.answer_at.Statement.{statement}
 use Rattle.fastmodbus.proofs.answer_at.Tie as tie
@@ -17,64 +15,29 @@ enum-known-head c = search needs
 
 returns : tie.Need-returns
 returns c =
-    let input = c .before .before .before .before .before .before .args .input .now in
-    let at = c .before .before .before .before .before .before .args .at in
+    let args = c .before .before .before .before .before .before .args in
     let head = sym (c .before .before .before .before .head-at .ensures) ∙ c .before .before .head .given .1 in
-    sym (answer-end input at (c .before .before .head .given .0 .0) head (c .if1 .taken))
+    sym (answer-end (args .input .now) (args .at) (c .before .before .head .given .0 .0) head (c .if1 .taken))
 
-add-serial-at : tie.Need-add-serial-at
-add-serial-at c = search needs
-
-serial-at-requires : tie.Need-serial-at-requires
-serial-at-requires c κs =
-    let input = c .before .before .before .before .before .before .args .input .now in
-    let at = c .before .before .before .before .before .before .args .at in
-    let s = c .before .before .head .given .0 .0 in
+found-at-requires : tie.Need-found-at-requires
+found-at-requires c κs =
+    let args = c .before .before .before .before .before .before .args in
     let head = sym (c .before .before .before .before .head-at .ensures) ∙ c .before .before .head .given .1 in
-    let fills = accepted deviceFound endOfScan input at s head .fills in
-    let ten = ap lengthFor (c .if1 .left) in
-    omega arith
-
-add-t10 : tie.Need-add-t10
-add-t10 c = search needs
-
-shared-slice-read-t12 : tie.Need-shared-slice-read-t12
-shared-slice-read-t12 c =
-    let input = c .before .before .before .before .before .before .before .before .before .args .input .now in
-    let at = c .before .before .before .before .before .before .before .before .before .args .at in
-    let s = c .before .before .before .before .before .head .given .0 .0 in
-    let head = sym (c .before .before .before .before .before .before .before .head-at .ensures) ∙ c .before .before .before .before .before .head .given .1 in
-    let fills = accepted deviceFound endOfScan input at s head .fills in
-    let ten = ap lengthFor (c .before .before .before .if1 .left) in
-    omega arith
-
-returns-2 : tie.Need-returns-2
-returns-2 c =
-    let input = c .before .before .before .before .before .before .before .before .before .args .input .now in
-    let at = c .before .before .before .before .before .before .before .before .before .args .at in
-    let s = c .before .before .before .before .before .head .given .0 .0 in
-    let head = sym (c .before .before .before .before .before .before .before .head-at .ensures) ∙ c .before .before .before .before .before .head .given .1 in
-    sym (answer-found input at s head (c .before .before .before .if1 .left) (c .before .before .serial-at .result) (c .before .before .serial-at .ensures) (omega arith))
-
-add-t9 : tie.Need-add-t9
-add-t9 c = search needs
+    omega (arith, found-long (args .input .now) (args .at) (c .before .before .head .given .0 .0) head (c .if1 .left))
 
 enum-known-head-2 : tie.Need-enum-known-head-2
 enum-known-head-2 c = search needs
 
+returns-2 : tie.Need-returns-2
+returns-2 c =
+    let args = c .before .before .before .before .before .before .before .args in
+    let head = sym (c .before .before .before .before .before .head-at .ensures) ∙ c .before .before .before .head .given .1 in
+    c .found-at .ensures ∙ sym (answer-found (args .input .now) (args .at) (c .before .before .before .head .given .0 .0) head (c .before .if1 .left))
+
 returns-3 : tie.Need-returns-3
 returns-3 c =
-    let input = c .before .before .before .before .before .before .before .before .args .input .now in
-    let at = c .before .before .before .before .before .before .before .before .args .at in
-    let s = c .before .before .before .before .head .given .0 .0 in
-    let head = sym (c .before .before .before .before .before .before .head-at .ensures) ∙ c .before .before .before .before .head .given .1 in
-    sym (answer-over input at s head (c .before .before .if1 .left) (c .before .serial-at .result) (c .before .serial-at .ensures) (omega arith))
-
-returns-4 : tie.Need-returns-4
-returns-4 c =
-    let input = c .before .before .before .before .before .args .input .now in
-    let at = c .before .before .before .before .before .args .at in
-    sym (answer-refused input at (c .before .head2 .given .0 .0) (sym (c .before .before .before .head-at .ensures) ∙ c .before .head2 .given .1))
+    let args = c .before .before .before .before .before .args in
+    sym (answer-refused (args .input .now) (args .at) (c .before .head2 .given .0 .0) (sym (c .before .before .before .head-at .ensures) ∙ c .before .head2 .given .1))
 
 pub answer-at-spec : {M : Type 1} → statement M
 answer-at-spec =
@@ -83,12 +46,7 @@ answer-at-spec =
     head-at-requires
     enum-known-head
     returns
-    add-serial-at
-    serial-at-requires
-    add-t10
-    shared-slice-read-t12
-    returns-2
-    add-t9
+    found-at-requires
     enum-known-head-2
-    returns-3
-    returns-4)
+    returns-2
+    returns-3)

@@ -2,25 +2,24 @@
 use mathlib.Core.Path.{refl}
 use Prim.Native.Nat.{_+_}
 use native.Mathlib.Omega.{arith}
-use Rattle.fastmodbus.specs.Head.{pairAt}
 use borrow.Author.Needs.{needs}
 use Rattle.fastmodbus.proofs.pair_at.Statement.{statement}
 use Rattle.fastmodbus.proofs.pair_at.Tie as tie
-
-shared-slice-read-low : tie.Need-shared-slice-read-low
-shared-slice-read-low c = search needs
-
-cast-low : tie.Need-cast-low
-cast-low c = omega (arith, c .shared-slice-known .given (c .before .args .place), c .shared-slice-known .given (c .before .args .place + 1))
-
-add-high : tie.Need-add-high
-add-high c = search needs
 
 shared-slice-read-high : tie.Need-shared-slice-read-high
 shared-slice-read-high c = search needs
 
 cast-high : tie.Need-cast-high
-cast-high c = omega (arith, c .before .shared-slice-known .given (c .before .before .args .place), c .before .shared-slice-known .given (c .before .before .args .place + 1))
+cast-high c = omega (arith, c .shared-slice-known .given (c .before .args .place), c .shared-slice-known .given (c .before .args .place + 1))
+
+add-low : tie.Need-add-low
+add-low c = search needs
+
+shared-slice-read-low : tie.Need-shared-slice-read-low
+shared-slice-read-low c = search needs
+
+cast-low : tie.Need-cast-low
+cast-low c = omega (arith, c .before .shared-slice-known .given (c .before .before .args .place), c .before .shared-slice-known .given (c .before .before .args .place + 1))
 
 mul-result : tie.Need-mul-result
 mul-result c = omega (arith, c .before .shared-slice-known .given (c .before .before .args .place), c .before .shared-slice-known .given (c .before .before .args .place + 1))
@@ -29,18 +28,17 @@ add-result : tie.Need-add-result
 add-result c = omega (arith, c .before .shared-slice-known .given (c .before .before .args .place), c .before .shared-slice-known .given (c .before .before .args .place + 1))
 
 returns : tie.Need-returns
-unfolding pairAt
-returns c = refl
+returns c = (refl, omega (arith, c .before .shared-slice-known .given (c .before .before .args .place), c .before .shared-slice-known .given (c .before .before .args .place + 1)))
 
 pub pair-at-spec : {M : Type 1} → statement M
 pair-at-spec =
     tie.close
     (tie.spec
-    shared-slice-read-low
-    cast-low
-    add-high
     shared-slice-read-high
     cast-high
+    add-low
+    shared-slice-read-low
+    cast-low
     mul-result
     add-result
     returns)

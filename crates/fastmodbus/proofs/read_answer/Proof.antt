@@ -5,15 +5,15 @@ use borrow.Author.Needs.{needs}
 use Rattle.fastmodbus.proofs.read_answer.Statement.{statement}
 use Rattle.fastmodbus.proofs.read_answer.Tie as tie
 
-leading-fill-requires : tie.Need-leading-fill-requires
-leading-fill-requires c κs = search needs
+skipped-requires : tie.Need-skipped-requires
+skipped-requires c κs = search needs
 
 answer-at-requires : tie.Need-answer-at-requires
 answer-at-requires c κs = search needs
 
 returns : tie.Need-returns
 unfolding readAnswer
-returns c = c .answer-at .ensures ∙ ap (answerAt (c .before .before .before .args .input .now)) (c .before .leading-fill .ensures .0)
+returns c = c .answer-at .ensures ∙ ap (answerAt (c .before .before .before .args .input .now)) (c .before .skipped .ensures .0)
 
 pub read-answer-spec : {M : Type 1} → statement M
-read-answer-spec = tie.close (tie.spec leading-fill-requires answer-at-requires returns)
+read-answer-spec = tie.close (tie.spec skipped-requires answer-at-requires returns)

@@ -1,112 +1,74 @@
--- `fastmodbus::write_closed` meets its contract. The loop's invariant: the output starts with as much of the body as is
--- copied, and the rest stays. Assumes nothing.
-use mathlib.Core.Path.{_≡_, refl, sym, ap, _∙_}
-use mathlib.Core.List.{List, _++_}
-use Prim.Native.Nat.{ℕ, _+_, _-_, _/_, _%_, _≤_, _<_}
+-- `fastmodbus::write_closed` meets its contract. Assumes nothing.
+use mathlib.Core.Path.{refl, ap}
+use mathlib.Core.List.{_++_}
+use Prim.Native.Nat.{_+_}
 use native.Mathlib.Omega.{arith}
-use lib.ListN.{length, getD, take, drop, set, length-set}
-use borrow.Author.Needs.{needs}
-use borrow.Author.Tests.{le-leb, lt-leb}
+use lib.ListN.{length, length-set}
+use Rattle.refusal.specs.Output.{bytes}
 use Rattle.refusal.specs.declared.Written.the-variants.{Length}
-use Rattle.fastmodbus.specs.Layout.{closed}
-use Rattle.fastmodbus.proofs.Copy.{copy-more, length-closed, put-closed}
+use Rattle.refusal.proofs.Writer.{wrote-short, wrote-all}
+use Rattle.fastmodbus.specs.Layout.{checkBytes}
+use Rattle.fastmodbus.proofs.CheckBehind.{length-closed, check-behind}
+use borrow.Author.Needs.{needs}
 use Rattle.fastmodbus.proofs.write_closed.Statement.{statement}
 use Rattle.fastmodbus.proofs.write_closed.Tie as tie
 
-abbrev Inv-loop : tie.InvT-loop
-Inv-loop body out₀ size check i₀ out i = (i ≤ length body) × (length out ≡ length out₀) × (out ≡ take i body ++ drop i out₀)
+add-if1 : tie.Need-add-if1
+add-if1 c = search needs
 
-abbrev μ-loop : tie.MeasureT-loop
-μ-loop body out₀ size check i₀ out i = length body - i
-
-add-if1 : tie.Need-add-if1 Inv-loop μ-loop
-add-if1 c = omega arith
-
-returns : tie.Need-returns Inv-loop μ-loop
+returns : tie.Need-returns
 returns c =
-    let short : length (c .before .before .before .args .out .now) < length (closed (c .before .before .before .args .body .now)) = omega (arith, length-closed (c .before .before .before .args .body .now)) in
-    (simp (lt-leb _ _ short), simp (lt-leb _ _ short))
+    let body = c .before .before .before .args .body .now in
+    let old = c .before .before .before .args .out .now in
+    wrote-short (bytes (body ++ checkBytes body)) (length old) old (length body + 2) (ap Length (length-closed body)) _ (omega arith) refl
 
-modbus-check-requires : tie.Need-modbus-check-requires Inv-loop μ-loop
-modbus-check-requires c κs = search needs
+check-of-requires : tie.Need-check-of-requires
+check-of-requires c κs = search needs
 
-loop-holds : tie.Need-loop-holds Inv-loop μ-loop
-loop-holds c = (omega arith, refl, refl)
+put-requires : tie.Need-put-requires
+put-requires c κs = search needs
 
-shared-slice-read-out : tie.Need-shared-slice-read-out Inv-loop μ-loop
-shared-slice-read-out c = omega arith
+array-read-out : tie.Need-array-read-out
+array-read-out c = search needs
 
-slice-write-out : tie.Need-slice-write-out Inv-loop μ-loop
-slice-write-out c = omega arith
+slice-write-out : tie.Need-slice-write-out
+slice-write-out c = search needs
 
-add-i : tie.Need-add-i Inv-loop μ-loop
-add-i c = omega arith
+array-read-out-2 : tie.Need-array-read-out-2
+array-read-out-2 c = search needs
 
-loop-less : tie.Need-loop-less Inv-loop μ-loop
-loop-less c = omega arith
+add-out : tie.Need-add-out
+add-out c = search needs
 
-loop-again : tie.Need-loop-again Inv-loop μ-loop
-loop-again c =
-    let body = c .before .before .before .before .before .before .before .args .body .now in
-    let old = c .before .before .before .before .before .before .before .args .out .now in
-    let i = c .before .before .loop .i in
-    (omega arith, length-set (c .before .before .loop .out) i (getD body i 0) ∙ c .before .before .loop .inv .1, ap (λ (l : List ℕ). set l i (getD body i 0)) (c .before .before .loop .inv .2) ∙ copy-more body old i (omega arith) (omega arith))
+slice-write-out-2 : tie.Need-slice-write-out-2
+slice-write-out-2 c = simp length-set (omega arith)
 
-cast-out : tie.Need-cast-out Inv-loop μ-loop
-cast-out c = omega arith
+add-t6 : tie.Need-add-t6
+add-t6 c = search needs
 
-slice-write-out-2 : tie.Need-slice-write-out-2 Inv-loop μ-loop
-slice-write-out-2 c = omega arith
+same-length : tie.Need-same-length
+same-length c = search needs
 
-cast-out-2 : tie.Need-cast-out-2 Inv-loop μ-loop
-cast-out-2 c = omega arith
-
-add-out : tie.Need-add-out Inv-loop μ-loop
-add-out c = omega arith
-
-slice-write-out-3 : tie.Need-slice-write-out-3 Inv-loop μ-loop
-slice-write-out-3 c = simp length-set (omega arith)
-
-add-t7 : tie.Need-add-t7 Inv-loop μ-loop
-add-t7 c = omega arith
-
-same-length : tie.Need-same-length Inv-loop μ-loop
-same-length c = simp length-set (c .before .loop .inv .1)
-
-returns-2 : tie.Need-returns-2 Inv-loop μ-loop
+returns-2 : tie.Need-returns-2
 returns-2 c =
-    let body = c .before .before .before .before .before .before .args .body .now in
-    let old = c .before .before .before .before .before .before .args .out .now in
-    let i = c .before .loop .i in
-    let check = c .before .before .modbus-check .result in
-    let whole : i ≡ length body = omega arith in
-    let room : length (closed body) ≤ length old = omega (arith, length-closed body) in (
-      simp (le-leb _ _ room) (ap Length (sym (length-closed body))),
-      simp (le-leb _ _ room)
-          (ap (λ (l : List ℕ). set (set l (length body) (check % 256)) (length body + 1) (check / 256)) (c .before .loop .inv .2)
-          ∙ put-closed body old i check whole (c .before .before .modbus-check .ensures) (omega arith)),
-    )
+    let body = c .before .before .before .before .before .before .before .before .args .body .now in
+    let old = c .before .before .before .before .before .before .before .before .args .out .now in
+    wrote-all (bytes (body ++ checkBytes body)) (length old) old (length body + 2) (ap Length (length-closed body)) _ (omega arith)
+    (check-behind body old (c .before .before .put .last .1 .0) (c .before .before .before .before .check-of .result) (c .before .before .put .ensures) (c .before .before .before .before .check-of .ensures) (omega arith))
 
 pub write-closed-spec : {M : Type 1} → statement M
 write-closed-spec =
     tie.close
     (tie.spec
-    Inv-loop
-    μ-loop
     add-if1
     returns
-    modbus-check-requires
-    loop-holds
-    shared-slice-read-out
+    check-of-requires
+    put-requires
+    array-read-out
     slice-write-out
-    add-i
-    loop-less
-    loop-again
-    cast-out
-    slice-write-out-2
-    cast-out-2
+    array-read-out-2
     add-out
-    slice-write-out-3
-    add-t7
+    slice-write-out-2
+    add-t6
     same-length
     returns-2)

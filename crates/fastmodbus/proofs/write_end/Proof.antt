@@ -1,4 +1,5 @@
 -- `fastmodbus::write_end` meets its contract. Assumes nothing.
+use Rattle.fastmodbus.specs.Framing.{frame}
 use Rattle.fastmodbus.specs.Layout.{endFrame}
 use Rattle.fastmodbus.specs.Writing.{writeEnd}
 use borrow.Author.Needs.{needs}
@@ -15,7 +16,7 @@ same-length : tie.Need-same-length
 same-length c = search needs
 
 returns : tie.Need-returns
-unfolding endFrame writeEnd
+unfolding frame endFrame writeEnd
 returns c = c .before .before .write-closed .ensures
 
 pub write-end-spec : {M : Type 1} → statement M

@@ -1,17 +1,19 @@
 -- `fastmodbus::write_found` meets its contract. Assumes nothing.
 use mathlib.Core.Path.{refl}
 use native.Mathlib.Omega.{arith}
-use lib.ListN.{length}
-use Rattle.fastmodbus.specs.Layout.{serialBytes, foundFrame}
-use Rattle.fastmodbus.proofs.Outcomes.{found-over, found-below}
+use borrow.Author.Tests.{lt-ltb, le-ltb}
+use Rattle.fastmodbus.specs.Framing.{frame}
+use Rattle.fastmodbus.specs.Layout.{serialBytes, foundBytes, foundFrame, serialLimit}
+use Rattle.fastmodbus.specs.Writing.{writeFound}
 use borrow.Author.Needs.{needs}
 use Rattle.fastmodbus.proofs.write_found.Statement.{statement}
 use Rattle.fastmodbus.proofs.write_found.Tie as tie
 
 returns : tie.Need-returns
+unfolding writeFound
 returns c =
     let args = c .before .before .args in
-    rw (found-over (args .serial) (args .address) (length (args .out .now)) (omega arith)) (refl, refl)
+    simp (le-ltb (args .serial) serialLimit (omega arith)) (record { result = refl; output = refl })
 
 cast-t8 : tie.Need-cast-t8
 cast-t8 c = search needs
@@ -35,10 +37,10 @@ same-length : tie.Need-same-length
 same-length c = search needs
 
 returns-2 : tie.Need-returns-2
-unfolding serialBytes foundFrame
+unfolding frame serialBytes foundBytes foundFrame writeFound
 returns-2 c =
     let args = c .before .before .before .before .before .before .before .args in
-    rw (found-below (args .serial) (args .address) (length (args .out .now)) (omega arith)) (c .before .before .write-closed .ensures)
+    simp (lt-ltb (args .serial) serialLimit (omega arith)) (c .before .before .write-closed .ensures)
 
 pub write-found-spec : {M : Type 1} → statement M
 write-found-spec =

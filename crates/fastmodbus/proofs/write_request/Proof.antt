@@ -1,4 +1,5 @@
 -- `fastmodbus::write_request` meets its contract. Assumes nothing.
+use Rattle.fastmodbus.specs.Framing.{frame}
 use Rattle.fastmodbus.specs.Layout.{requestFrame}
 use Rattle.fastmodbus.specs.Writing.{writeRequest}
 use borrow.Author.Needs.{needs}
@@ -18,7 +19,7 @@ same-length : tie.Need-same-length
 same-length c = search needs
 
 returns : tie.Need-returns
-unfolding requestFrame writeRequest
+unfolding frame requestFrame writeRequest
 returns c = simp (← c .before .before .before .before .before .subcommand-of .ensures) (c .before .before .write-closed .ensures)
 
 pub write-request-spec : {M : Type 1} → statement M

@@ -1,22 +1,23 @@
--- `table::stands_in` meets its contract. The loop's invariant: the test over all is the test over those not yet
--- looked at. Assumes nothing.
-use mathlib.Core.Path.{_≡_, refl, sym, _∙_}
-use Prim.Native.Nat.{_-_, _≤_}
+-- `table::stands_in` meets its contract: a walk that compares each serial. Assumes nothing.
+use mathlib.Core.Path.{refl}
+use mathlib.Core.Bool.{false}
+use mathlib.Core.Logic.{⊎-elim}
+use Prim.Native.Nat.{_-_}
 use native.Mathlib.Omega.{arith}
 use lib.Dec.{eqb}
-use lib.ListN.{length, getD, drop}
+use lib.ListN.{length, getD}
 use borrow.Author.Needs.{needs}
 use borrow.Author.Tests.{eq-eqb, ne-eqb}
-use Rattle.arbitration.specs.Contest.{some}
-use Rattle.arbitration.proofs.Tests.{some-here, some-onward, some-end}
+use Rattle.lists.specs.Tests.{any}
+use Rattle.lists.proofs.Walk.{Walked, anySoFar, one-other, one-found, walk-ends, any-done}
 use Rattle.table.proofs.stands_in.Statement.{statement}
 use Rattle.table.proofs.stands_in.Tie as tie
 
 abbrev Inv-loop : tie.InvT-loop
-Inv-loop serial serials i₀ i = (i ≤ length serials) × (some (eqb serial) (drop i serials) ≡ some (eqb serial) serials)
+Inv-loop serial serials stands₀ i₀ stands i = Walked (anySoFar (eqb serial)) false serials i stands
 
 abbrev μ-loop : tie.MeasureT-loop
-μ-loop serial serials i₀ i = length serials - i
+μ-loop serial serials stands₀ i₀ stands i = length serials - i
 
 loop-holds : tie.Need-loop-holds Inv-loop μ-loop
 loop-holds c = (omega arith, refl)
@@ -27,9 +28,6 @@ mul-if1 c = search needs
 shared-slice-read-if1 : tie.Need-shared-slice-read-if1 Inv-loop μ-loop
 shared-slice-read-if1 c = omega arith
 
-returns : tie.Need-returns Inv-loop μ-loop
-returns c = sym (some-here (eqb (c .before .before .before .before .args .serial)) (c .before .before .before .before .args .serials .now) (c .before .before .before .loop .i) (c .before .before .loop-test .taken) (eq-eqb (c .before .before .before .before .args .serial) (getD (c .before .before .before .before .args .serials .now) (c .before .before .before .loop .i) 0) (c .if1 .taken)))
-
 add-i : tie.Need-add-i Inv-loop μ-loop
 add-i c = omega arith
 
@@ -37,10 +35,20 @@ loop-less : tie.Need-loop-less Inv-loop μ-loop
 loop-less c = omega arith
 
 loop-again : tie.Need-loop-again Inv-loop μ-loop
-loop-again c = (omega arith, sym (some-onward (eqb (c .before .before .before .before .args .serial)) (c .before .before .before .before .args .serials .now) (c .before .before .before .loop .i) (c .before .before .loop-test .taken) (ne-eqb (c .before .before .before .before .args .serial) (getD (c .before .before .before .before .args .serials .now) (c .before .before .before .loop .i) 0) (c .if1 .left))) ∙ c .before .before .before .loop .inv .1)
+loop-again c =
+    let serials = c .before .before .before .before .args .serials .now in
+    let serial = c .before .before .before .before .args .serial in
+    let i = c .before .before .before .loop .i in
+    let stands = c .before .before .before .loop .stands in
+    ⊎-elim
+    (λ t. one-found (eqb serial) serials i stands (c .before .before .before .loop .inv) (c .if1 .stands) (c .before .before .loop-test .taken) (eq-eqb serial (getD serials i 0) (t .0 .taken)) (t .1))
+    (λ t. one-other (eqb serial) serials i stands (c .before .before .before .loop .inv) (c .if1 .stands) (c .before .before .loop-test .taken) (ne-eqb serial (getD serials i 0) (t .0 .left)) (t .1))
+    (c .if1 .came)
 
-returns-2 : tie.Need-returns-2 Inv-loop μ-loop
-returns-2 c = some-end (eqb (c .before .before .args .serial)) (c .before .before .args .serials .now) (c .before .loop .i) (c .loop-test .left) ∙ c .before .loop .inv .1
+returns : tie.Need-returns Inv-loop μ-loop
+unfolding any
+returns c =
+    walk-ends (anySoFar (eqb (c .before .before .args .serial))) false (c .before .before .args .serials .now) (c .before .loop .i) (c .before .loop .stands) (c .before .loop .inv) (c .loop-test .left) (any-done (c .before .loop .stands))
 
 pub stands-in-spec : {M : Type 1} → statement M
 stands-in-spec =
@@ -51,8 +59,7 @@ stands-in-spec =
     loop-holds
     mul-if1
     shared-slice-read-if1
-    returns
     add-i
     loop-less
     loop-again
-    returns-2)
+    returns)

@@ -1,46 +1,46 @@
--- `table::valid` meets its contract: the tests in the definition's order. Assumes nothing.
+-- `table::valid` meets its contract: each test that fails decides, and the last one where all before it pass.
+-- Assumes nothing.
 use mathlib.Core.Path.{sym, _∙_}
 use native.Mathlib.Omega.{arith}
-use lib.ListN.{length}
-use borrow.Author.Tests.{eq-eqb, ne-eqb, le-leb, lt-leb, not-true, not-false}
-use Rattle.table.specs.Table.{valid}
-use Rattle.table.proofs.Meaning.{test-passes, test-fails}
 use borrow.Author.Needs.{needs}
+use borrow.Author.Tests.{not-true, not-false}
+use Rattle.lists.proofs.Cases.{true-not-false}
+use Rattle.table.specs.Table.{columns}
+use Rattle.table.proofs.Meaning.{not-valid, marks-decide}
 use Rattle.table.proofs.valid.Statement.{statement}
 use Rattle.table.proofs.valid.Tie as tie
 
 returns : tie.Need-returns
-unfolding valid
-returns c = test-fails _ (ne-eqb (length (c .before .before .before .before .args .addresses .now)) (length (c .before .before .before .before .args .serials .now)) (c .if1 .taken))
+returns c = not-valid _ (λ g. omega (arith, c .if1 .taken, g .addresses-long))
 
 returns-2 : tie.Need-returns-2
-unfolding valid
-returns-2 c = test-passes (eq-eqb (length (c .before .before .before .before .before .args .addresses .now)) (length (c .before .before .before .before .before .args .serials .now)) (c .before .if1 .left)) (test-fails _ (ne-eqb (length (c .before .before .before .before .before .args .marks .now)) (length (c .before .before .before .before .before .args .serials .now)) (c .if2 .taken)))
+returns-2 c = not-valid _ (λ g. omega (arith, c .if2 .taken, g .marks-long))
 
 returns-3 : tie.Need-returns-3
-unfolding valid
-returns-3 c = test-passes (eq-eqb (length (c .before .before .before .before .before .before .args .addresses .now)) (length (c .before .before .before .before .before .before .args .serials .now)) (c .before .before .if1 .left)) (test-passes (eq-eqb (length (c .before .before .before .before .before .before .args .marks .now)) (length (c .before .before .before .before .before .before .args .serials .now)) (c .before .if2 .left)) (test-fails _ (lt-leb (length (c .before .before .before .before .before .before .args .serials .now)) 247 (omega (arith, c .if3 .taken)))))
+returns-3 c = not-valid _ (λ g. omega (arith, c .if3 .taken, g .few))
 
 serials-right-requires : tie.Need-serials-right-requires
 serials-right-requires c κs = search needs
 
 returns-4 : tie.Need-returns-4
-unfolding valid
-returns-4 c = test-passes (eq-eqb (length (c .before .before .before .before .before .before .before .before .args .addresses .now)) (length (c .before .before .before .before .before .before .before .before .args .serials .now)) (c .before .before .before .before .if1 .left)) (test-passes (eq-eqb (length (c .before .before .before .before .before .before .before .before .args .marks .now)) (length (c .before .before .before .before .before .before .before .before .args .serials .now)) (c .before .before .before .if2 .left)) (test-passes (le-leb (length (c .before .before .before .before .before .before .before .before .args .serials .now)) 247 (omega (arith, c .before .before .if3 .left))) (test-fails _ (sym (c .before .serials-right .ensures) ∙ not-true (c .before .serials-right .result) (c .if4 .taken)))))
+returns-4 c = not-valid _ (λ g. true-not-false (c .before .serials-right .ensures ∙ g .serials-right) (not-true (c .before .serials-right .result) (c .if4 .taken)))
 
 serials-differ-requires : tie.Need-serials-differ-requires
 serials-differ-requires c κs = search needs
 
 returns-5 : tie.Need-returns-5
-unfolding valid
-returns-5 c = test-passes (eq-eqb (length (c .before .before .before .before .before .before .before .before .before .before .args .addresses .now)) (length (c .before .before .before .before .before .before .before .before .before .before .args .serials .now)) (c .before .before .before .before .before .before .if1 .left)) (test-passes (eq-eqb (length (c .before .before .before .before .before .before .before .before .before .before .args .marks .now)) (length (c .before .before .before .before .before .before .before .before .before .before .args .serials .now)) (c .before .before .before .before .before .if2 .left)) (test-passes (le-leb (length (c .before .before .before .before .before .before .before .before .before .before .args .serials .now)) 247 (omega (arith, c .before .before .before .before .if3 .left))) (test-passes (sym (c .before .before .before .serials-right .ensures) ∙ not-false (c .before .before .before .serials-right .result) (c .before .before .if4 .left)) (test-fails _ (sym (c .before .serials-differ .ensures) ∙ not-true (c .before .serials-differ .result) (c .if5 .taken))))))
+returns-5 c = not-valid _ (λ g. true-not-false (c .before .serials-differ .ensures ∙ g .differ) (not-true (c .before .serials-differ .result) (c .if5 .taken)))
 
 marks-right-requires : tie.Need-marks-right-requires
 marks-right-requires c κs = search needs
 
 returns-6 : tie.Need-returns-6
-unfolding valid
-returns-6 c = test-passes (eq-eqb (length (c .before .before .before .before .before .before .before .before .before .before .before .args .addresses .now)) (length (c .before .before .before .before .before .before .before .before .before .before .before .args .serials .now)) (c .before .before .before .before .before .before .before .if1 .left)) (test-passes (eq-eqb (length (c .before .before .before .before .before .before .before .before .before .before .before .args .marks .now)) (length (c .before .before .before .before .before .before .before .before .before .before .before .args .serials .now)) (c .before .before .before .before .before .before .if2 .left)) (test-passes (le-leb (length (c .before .before .before .before .before .before .before .before .before .before .before .args .serials .now)) 247 (omega (arith, c .before .before .before .before .before .if3 .left))) (test-passes (sym (c .before .before .before .before .serials-right .ensures) ∙ not-false (c .before .before .before .before .serials-right .result) (c .before .before .before .if4 .left)) (test-passes (sym (c .before .before .serials-differ .ensures) ∙ not-false (c .before .before .serials-differ .result) (c .before .if5 .left)) (c .marks-right .ensures)))))
+returns-6 c =
+    let a = c .before .before .before .before .before .before .before .before .before .before .before .args in
+    c .marks-right .ensures
+    ∙ marks-decide (columns (a .serials .now) (a .addresses .now) (a .marks .now)) (omega (arith, c .before .before .before .before .before .before .before .if1 .left)) (omega (arith, c .before .before .before .before .before .before .if2 .left)) (omega (arith, c .before .before .before .before .before .if3 .left))
+    (sym (c .before .before .before .before .serials-right .ensures) ∙ not-false (c .before .before .before .before .serials-right .result) (c .before .before .before .if4 .left))
+    (sym (c .before .before .serials-differ .ensures) ∙ not-false (c .before .before .serials-differ .result) (c .before .if5 .left))
 
 pub valid-spec : {M : Type 1} → statement M
 valid-spec =

@@ -1,9 +1,9 @@
 -- `devices::bus::arbitrate` meets its contract: the first of the local array are the devices' keys. Assumes nothing.
-use mathlib.Core.Path.{sym, ap, ap₂, _∙_}
+use mathlib.Core.Path.{sym, ap, _∙_}
 use lib.ListN.{length, take}
-use Rattle.arbitration.specs.Contest.{winner, dominantWindows}
-use Rattle.devices.specs.Request.{keysOf, position, windows, winnerPlace}
-use Rattle.devices.proofs.Lists.{start-of}
+use Rattle.arbitration.specs.Contest.{decided}
+use Rattle.devices.specs.Request.{keysOf, windows}
+use Rattle.lists.proofs.Filling.{start-of}
 use Rattle.devices.proofs.Keys.{keys-length}
 use borrow.Author.Needs.{needs}
 use Rattle.devices.proofs.bus.arbitrate.Statement.{statement}
@@ -20,37 +20,16 @@ array-share-prefix-keys c = search needs
 
 slice-aggregate-contest : tie.Need-slice-aggregate-contest
 slice-aggregate-contest c = let serials = c .before .before .before .before .before .before .args .serials .now in
-    let marks = c .before .before .before .before .before .before .args .marks .now in
-    let contending = keysOf serials marks in
-    let size = keys-length serials marks (c .before .before .before .before .before .before .pre .0) in
-    sym (ap length (ap (take (length serials)) (c .before .before .put-keys .ensures) ∙ start-of contending _ (length serials) size) ∙ size)
+    let size = keys-length serials (c .before .before .before .before .before .before .args .marks .now) (c .before .before .before .before .before .before .pre .0) in
+    sym (ap length (ap (take (length serials)) (c .before .before .put-keys .ensures) ∙ start-of (keysOf serials (c .before .before .before .before .before .before .args .marks .now)) _ (length serials) size) ∙ size)
 
 contest-requires : tie.Need-contest-requires
 contest-requires c κs = search needs
 
-array-share-prefix-keys-2 : tie.Need-array-share-prefix-keys-2
-array-share-prefix-keys-2 c = search needs
-
-slice-aggregate-place-of : tie.Need-slice-aggregate-place-of
-slice-aggregate-place-of c = let serials = c .before .before .before .before .before .before .before .before .args .serials .now in
-    let marks = c .before .before .before .before .before .before .before .before .args .marks .now in
-    let contending = keysOf serials marks in
-    let size = keys-length serials marks (c .before .before .before .before .before .before .before .before .pre .0) in
-    sym (ap length (ap (take (length serials)) (c .before .before .before .before .put-keys .ensures) ∙ start-of contending _ (length serials) size) ∙ size)
-
-place-of-requires : tie.Need-place-of-requires
-place-of-requires c κs = search needs
-
 returns : tie.Need-returns
-unfolding winnerPlace
-returns c = let serials = c .before .before .before .before .before .before .before .before .before .args .serials .now in
-    let marks = c .before .before .before .before .before .before .before .before .before .args .marks .now in
-    let contending = keysOf serials marks in
-    let size = keys-length serials marks (c .before .before .before .before .before .before .before .before .before .pre .0) in
-    let first = ap (take (length serials)) (c .before .before .before .before .before .put-keys .ensures) ∙ start-of contending _ (length serials) size in (
-      c .place-of .ensures ∙ ap₂ position (c .before .before .contest .ensures .0 ∙ ap (winner windows) first) first,
-      c .before .before .contest .ensures .1 ∙ ap (dominantWindows windows) first,
-    )
+returns c = let serials = c .before .before .before .before .before .before .before .args .serials .now in
+    let size = keys-length serials (c .before .before .before .before .before .before .before .args .marks .now) (c .before .before .before .before .before .before .before .pre .0) in
+    c .contest .ensures ∙ ap (decided windows) (ap (take (length serials)) (c .before .before .before .put-keys .ensures) ∙ start-of (keysOf serials (c .before .before .before .before .before .before .before .args .marks .now)) _ (length serials) size)
 
 pub arbitrate-spec : {M : Type 1} → statement M
 arbitrate-spec =
@@ -61,7 +40,4 @@ arbitrate-spec =
     array-share-prefix-keys
     slice-aggregate-contest
     contest-requires
-    array-share-prefix-keys-2
-    slice-aggregate-place-of
-    place-of-requires
     returns)

@@ -6,7 +6,7 @@ use lib.ListN.{length, drop}
 use mathlib.Core.List.{List, _++_}
 use lib.ListN.{set, replicate, length-set}
 use borrow.Author.Fill.{fill-more}
-use Rattle.devices.proofs.Lists.{zeroed}
+use Rattle.lists.proofs.Filling.{all-written}
 use Rattle.devices.proofs.bus.clear.Statement.{statement}
 use Rattle.devices.proofs.bus.clear.Tie as tie
 
@@ -35,7 +35,7 @@ same-length : tie.Need-same-length Inv-loop μ-loop
 same-length c = c .before .loop .inv .1
 
 returns : tie.Need-returns Inv-loop μ-loop
-returns c = zeroed (c .before .before .args .marks .now) (c .before .loop .marks) (c .before .loop .i) (omega arith) (c .before .loop .inv .2)
+returns c = all-written 0 (c .before .before .args .marks .now) (c .before .loop .marks) (c .before .loop .i) (omega arith) (c .before .loop .inv .2)
 
 pub clear-spec : {M : Type 1} → statement M
 clear-spec =

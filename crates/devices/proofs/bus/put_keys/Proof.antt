@@ -8,11 +8,11 @@ use lib.ListN.{length, getD, take, set, length-set}
 use lib.Seq.{take-all}
 use borrow.Author.Needs.{needs}
 use borrow.Author.Tests.{ltb-true}
-use Rattle.refusal.specs.Output.{starting}
+use Rattle.lists.specs.Starting.{starting}
 use Rattle.table.specs.Table.{serialLimit, serialRight}
 use Rattle.devices.specs.Request.{keysOf}
-use Rattle.table.proofs.Lists.{every-at}
-use Rattle.devices.proofs.Lists.{copied-on}
+use Rattle.lists.proofs.All.{all-at}
+use Rattle.lists.proofs.Filling.{starting-more}
 use Rattle.devices.proofs.Keys.{keys-length, keys-at}
 use Rattle.devices.proofs.bus.put_keys.Statement.{statement}
 use Rattle.devices.proofs.bus.put_keys.Tie as tie
@@ -36,7 +36,7 @@ shared-slice-read-key-2 : tie.Need-shared-slice-read-key-2 Inv-loop μ-loop
 shared-slice-read-key-2 c = omega arith
 
 key-requires : tie.Need-key-requires Inv-loop μ-loop
-key-requires c κs = ltb-true (getD (c .before .before .before .before .before .before .before .args .serials .now) (c .before .before .before .loop .i) 0) serialLimit (every-at serialRight (c .before .before .before .before .before .before .before .args .serials .now) (c .before .before .before .before .before .before .before .pre .2) (c .before .before .before .loop .i) (omega arith))
+key-requires c κs = ltb-true (getD (c .before .before .before .before .before .before .before .args .serials .now) (c .before .before .before .loop .i) 0) serialLimit (all-at serialRight (c .before .before .before .before .before .before .before .args .serials .now) (c .before .before .before .before .before .before .before .pre .2) (c .before .before .before .loop .i) (omega arith))
 
 mul-keys : tie.Need-mul-keys Inv-loop μ-loop
 mul-keys c = omega arith
@@ -58,7 +58,7 @@ loop-again c =
       length-set (c .before .before .before .before .loop .keys) (c .before .before .before .before .loop .i) (c .key .result) ∙ c .before .before .before .before .loop .inv .1,
       ap (λ (l : List ℕ). set l (c .before .before .before .before .loop .i) (c .key .result)) (c .before .before .before .before .loop .inv .2)
           ∙ ap (set (starting (take (c .before .before .before .before .loop .i) (keysOf serials marks)) (c .before .before .before .before .before .before .before .before .args .keys .now)) (c .before .before .before .before .loop .i)) (c .key .ensures ∙ sym (keys-at serials marks (c .before .before .before .before .before .before .before .before .pre .0) (c .before .before .before .before .loop .i) (omega arith)))
-          ∙ copied-on (keysOf serials marks) (c .before .before .before .before .before .before .before .before .args .keys .now) (c .before .before .before .before .loop .i) (omega (arith, keys-length serials marks (c .before .before .before .before .before .before .before .before .pre .0))) (omega (arith, keys-length serials marks (c .before .before .before .before .before .before .before .before .pre .0))),
+          ∙ starting-more (keysOf serials marks) (c .before .before .before .before .before .before .before .before .args .keys .now) (c .before .before .before .before .loop .i) (omega (arith, keys-length serials marks (c .before .before .before .before .before .before .before .before .pre .0))) (omega (arith, keys-length serials marks (c .before .before .before .before .before .before .before .before .pre .0))),
     )
 
 same-length : tie.Need-same-length Inv-loop μ-loop

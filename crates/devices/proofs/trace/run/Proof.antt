@@ -3,7 +3,8 @@
 use mathlib.Core.Path.{sym, _∙_}
 use Prim.Native.Nat.{_-_}
 use native.Mathlib.Omega.{arith}
-use Rattle.devices.proofs.Going.{Going, going-start, going-capped, going-ended, going-silent, going-room, going-on}
+use Rattle.table.specs.Table.{columns}
+use Rattle.devices.proofs.ScanUnderWay.{Going, going-start, going-capped, going-ended, going-silent, going-room, going-on}
 use borrow.Author.Needs.{needs}
 use Rattle.devices.proofs.trace.run.Statement.{statement}
 use Rattle.devices.proofs.trace.run.Tie as tie
@@ -23,17 +24,17 @@ request-after-requires c κs = search needs
 respond-requires : tie.Need-respond-requires Inv-loop μ-loop
 respond-requires c κs = c .before .before .before .loop .inv .right
 
-enum-known-reply : tie.Need-enum-known-reply Inv-loop μ-loop
-enum-known-reply c = search needs
+enum-known-heard : tie.Need-enum-known-heard Inv-loop μ-loop
+enum-known-heard c = search needs
 
 mul-found-serials : tie.Need-mul-found-serials Inv-loop μ-loop
-mul-found-serials c = omega (arith, c .before .before .before .before .before .before .before .before .before .before .before .before .before .before .before .pre .1, going-room (c .before .before .before .before .before .before .before .before .before .before .before .before .before .before .before .args .cap) (c .before .before .before .before .before .before .before .before .before .before .before .before .before .before .before .args .serials .now) (c .before .before .before .before .before .before .before .before .before .before .before .before .before .before .before .args .addresses .now) (c .before .before .before .before .before .before .before .before .before .before .before .before .before .before .before .args .marks .now) (c .before .before .before .before .before .before .before .before .before .before .before .before .before .before .before .args .found-serials .now) (c .before .before .before .before .before .before .before .before .before .before .before .before .before .before .before .args .found-addresses .now) (c .before .before .before .before .before .before .before .before .before .before .before .before .before .before .before .pre .0) (c .before .before .before .before .before .before .before .before .before .before .before .before .before .before .before .pre .1) (c .before .before .before .before .before .before .before .before .before .before .before .before .before .before .before .pre .2) (c .before .before .before .before .before .before .before .before .before .loop .marks) (c .before .before .before .before .before .before .before .before .before .loop .found-serials) (c .before .before .before .before .before .before .before .before .before .loop .found-addresses) (c .before .before .before .before .before .before .before .before .before .loop .sent) (c .before .before .before .before .before .before .before .before .before .loop .inv) (c .before .before .before .before .before .before .before .before .loop-test .taken) (c .before .before .before .before .before .before .before .request-after .result) (c .before .before .before .before .before .before .before .request-after .ensures) (c .before .reply .given .0 .0) (c .before .reply .given .0 .1 .0) (c .before .reply .given .0 .1 .1 .0) (sym (c .before .before .before .before .before .respond .ensures .reply-is) ∙ c .before .reply .given .1))
+mul-found-serials c = omega (arith, c .before .before .before .before .before .before .before .before .before .before .before .before .before .before .before .pre .1, going-room (c .before .before .before .before .before .before .before .before .before .before .before .before .before .before .before .args .cap) (c .before .before .before .before .before .before .before .before .before .before .before .before .before .before .before .args .serials .now) (c .before .before .before .before .before .before .before .before .before .before .before .before .before .before .before .args .addresses .now) (c .before .before .before .before .before .before .before .before .before .before .before .before .before .before .before .args .marks .now) (c .before .before .before .before .before .before .before .before .before .before .before .before .before .before .before .args .found-serials .now) (c .before .before .before .before .before .before .before .before .before .before .before .before .before .before .before .args .found-addresses .now) (c .before .before .before .before .before .before .before .before .before .before .before .before .before .before .before .pre .0) (c .before .before .before .before .before .before .before .before .before .before .before .before .before .before .before .pre .1) (c .before .before .before .before .before .before .before .before .before .before .before .before .before .before .before .pre .2) (c .before .before .before .before .before .before .before .before .before .loop .marks) (c .before .before .before .before .before .before .before .before .before .loop .found-serials) (c .before .before .before .before .before .before .before .before .before .loop .found-addresses) (c .before .before .before .before .before .before .before .before .before .loop .sent) (c .before .before .before .before .before .before .before .before .before .loop .inv) (c .before .before .before .before .before .before .before .before .loop-test .taken) (c .before .before .before .before .before .before .before .request-after .result) (c .before .before .before .before .before .before .before .request-after .ensures) (c .before .heard .given .0 .0) (c .before .heard .given .0 .1 .0) (c .before .heard .given .0 .1 .1 .0) (sym (c .before .before .before .before .before .respond .ensures .answer-is) ∙ c .before .heard .given .1))
 
 slice-write-found-serials : tie.Need-slice-write-found-serials Inv-loop μ-loop
-slice-write-found-serials c = omega (arith, c .before .before .before .before .before .before .before .before .before .before .before .before .before .before .before .pre .1, c .before .before .before .before .before .before .before .before .before .loop .inv .serials-kept, going-room (c .before .before .before .before .before .before .before .before .before .before .before .before .before .before .before .args .cap) (c .before .before .before .before .before .before .before .before .before .before .before .before .before .before .before .args .serials .now) (c .before .before .before .before .before .before .before .before .before .before .before .before .before .before .before .args .addresses .now) (c .before .before .before .before .before .before .before .before .before .before .before .before .before .before .before .args .marks .now) (c .before .before .before .before .before .before .before .before .before .before .before .before .before .before .before .args .found-serials .now) (c .before .before .before .before .before .before .before .before .before .before .before .before .before .before .before .args .found-addresses .now) (c .before .before .before .before .before .before .before .before .before .before .before .before .before .before .before .pre .0) (c .before .before .before .before .before .before .before .before .before .before .before .before .before .before .before .pre .1) (c .before .before .before .before .before .before .before .before .before .before .before .before .before .before .before .pre .2) (c .before .before .before .before .before .before .before .before .before .loop .marks) (c .before .before .before .before .before .before .before .before .before .loop .found-serials) (c .before .before .before .before .before .before .before .before .before .loop .found-addresses) (c .before .before .before .before .before .before .before .before .before .loop .sent) (c .before .before .before .before .before .before .before .before .before .loop .inv) (c .before .before .before .before .before .before .before .before .loop-test .taken) (c .before .before .before .before .before .before .before .request-after .result) (c .before .before .before .before .before .before .before .request-after .ensures) (c .before .reply .given .0 .0) (c .before .reply .given .0 .1 .0) (c .before .reply .given .0 .1 .1 .0) (sym (c .before .before .before .before .before .respond .ensures .reply-is) ∙ c .before .reply .given .1))
+slice-write-found-serials c = omega (arith, c .before .before .before .before .before .before .before .before .before .before .before .before .before .before .before .pre .1, c .before .before .before .before .before .before .before .before .before .loop .inv .serials-kept, going-room (c .before .before .before .before .before .before .before .before .before .before .before .before .before .before .before .args .cap) (c .before .before .before .before .before .before .before .before .before .before .before .before .before .before .before .args .serials .now) (c .before .before .before .before .before .before .before .before .before .before .before .before .before .before .before .args .addresses .now) (c .before .before .before .before .before .before .before .before .before .before .before .before .before .before .before .args .marks .now) (c .before .before .before .before .before .before .before .before .before .before .before .before .before .before .before .args .found-serials .now) (c .before .before .before .before .before .before .before .before .before .before .before .before .before .before .before .args .found-addresses .now) (c .before .before .before .before .before .before .before .before .before .before .before .before .before .before .before .pre .0) (c .before .before .before .before .before .before .before .before .before .before .before .before .before .before .before .pre .1) (c .before .before .before .before .before .before .before .before .before .before .before .before .before .before .before .pre .2) (c .before .before .before .before .before .before .before .before .before .loop .marks) (c .before .before .before .before .before .before .before .before .before .loop .found-serials) (c .before .before .before .before .before .before .before .before .before .loop .found-addresses) (c .before .before .before .before .before .before .before .before .before .loop .sent) (c .before .before .before .before .before .before .before .before .before .loop .inv) (c .before .before .before .before .before .before .before .before .loop-test .taken) (c .before .before .before .before .before .before .before .request-after .result) (c .before .before .before .before .before .before .before .request-after .ensures) (c .before .heard .given .0 .0) (c .before .heard .given .0 .1 .0) (c .before .heard .given .0 .1 .1 .0) (sym (c .before .before .before .before .before .respond .ensures .answer-is) ∙ c .before .heard .given .1))
 
 slice-write-found-addresses : tie.Need-slice-write-found-addresses Inv-loop μ-loop
-slice-write-found-addresses c = omega (arith, c .before .before .before .before .before .before .before .before .before .before .before .before .before .before .before .pre .2, c .before .before .before .before .before .before .before .before .before .loop .inv .addresses-kept, going-room (c .before .before .before .before .before .before .before .before .before .before .before .before .before .before .before .args .cap) (c .before .before .before .before .before .before .before .before .before .before .before .before .before .before .before .args .serials .now) (c .before .before .before .before .before .before .before .before .before .before .before .before .before .before .before .args .addresses .now) (c .before .before .before .before .before .before .before .before .before .before .before .before .before .before .before .args .marks .now) (c .before .before .before .before .before .before .before .before .before .before .before .before .before .before .before .args .found-serials .now) (c .before .before .before .before .before .before .before .before .before .before .before .before .before .before .before .args .found-addresses .now) (c .before .before .before .before .before .before .before .before .before .before .before .before .before .before .before .pre .0) (c .before .before .before .before .before .before .before .before .before .before .before .before .before .before .before .pre .1) (c .before .before .before .before .before .before .before .before .before .before .before .before .before .before .before .pre .2) (c .before .before .before .before .before .before .before .before .before .loop .marks) (c .before .before .before .before .before .before .before .before .before .loop .found-serials) (c .before .before .before .before .before .before .before .before .before .loop .found-addresses) (c .before .before .before .before .before .before .before .before .before .loop .sent) (c .before .before .before .before .before .before .before .before .before .loop .inv) (c .before .before .before .before .before .before .before .before .loop-test .taken) (c .before .before .before .before .before .before .before .request-after .result) (c .before .before .before .before .before .before .before .request-after .ensures) (c .before .reply .given .0 .0) (c .before .reply .given .0 .1 .0) (c .before .reply .given .0 .1 .1 .0) (sym (c .before .before .before .before .before .respond .ensures .reply-is) ∙ c .before .reply .given .1))
+slice-write-found-addresses c = omega (arith, c .before .before .before .before .before .before .before .before .before .before .before .before .before .before .before .pre .2, c .before .before .before .before .before .before .before .before .before .loop .inv .addresses-kept, going-room (c .before .before .before .before .before .before .before .before .before .before .before .before .before .before .before .args .cap) (c .before .before .before .before .before .before .before .before .before .before .before .before .before .before .before .args .serials .now) (c .before .before .before .before .before .before .before .before .before .before .before .before .before .before .before .args .addresses .now) (c .before .before .before .before .before .before .before .before .before .before .before .before .before .before .before .args .marks .now) (c .before .before .before .before .before .before .before .before .before .before .before .before .before .before .before .args .found-serials .now) (c .before .before .before .before .before .before .before .before .before .before .before .before .before .before .before .args .found-addresses .now) (c .before .before .before .before .before .before .before .before .before .before .before .before .before .before .before .pre .0) (c .before .before .before .before .before .before .before .before .before .before .before .before .before .before .before .pre .1) (c .before .before .before .before .before .before .before .before .before .before .before .before .before .before .before .pre .2) (c .before .before .before .before .before .before .before .before .before .loop .marks) (c .before .before .before .before .before .before .before .before .before .loop .found-serials) (c .before .before .before .before .before .before .before .before .before .loop .found-addresses) (c .before .before .before .before .before .before .before .before .before .loop .sent) (c .before .before .before .before .before .before .before .before .before .loop .inv) (c .before .before .before .before .before .before .before .before .loop-test .taken) (c .before .before .before .before .before .before .before .request-after .result) (c .before .before .before .before .before .before .before .request-after .ensures) (c .before .heard .given .0 .0) (c .before .heard .given .0 .1 .0) (c .before .heard .given .0 .1 .1 .0) (sym (c .before .before .before .before .before .respond .ensures .answer-is) ∙ c .before .heard .given .1))
 
 add-sent : tie.Need-add-sent Inv-loop μ-loop
 add-sent c = omega (arith, c .before .before .before .before .before .before .before .before .loop-test .taken)
@@ -42,7 +43,7 @@ loop-less : tie.Need-loop-less Inv-loop μ-loop
 loop-less c = omega (arith, c .before .before .before .before .before .before .before .before .loop-test .taken)
 
 loop-again : tie.Need-loop-again Inv-loop μ-loop
-loop-again c = going-on (c .before .before .before .before .before .before .before .before .before .before .before .before .before .before .before .args .cap) (c .before .before .before .before .before .before .before .before .before .before .before .before .before .before .before .args .serials .now) (c .before .before .before .before .before .before .before .before .before .before .before .before .before .before .before .args .addresses .now) (c .before .before .before .before .before .before .before .before .before .before .before .before .before .before .before .args .marks .now) (c .before .before .before .before .before .before .before .before .before .before .before .before .before .before .before .args .found-serials .now) (c .before .before .before .before .before .before .before .before .before .before .before .before .before .before .before .args .found-addresses .now) (c .before .before .before .before .before .before .before .before .before .before .before .before .before .before .before .pre .0) (c .before .before .before .before .before .before .before .before .before .before .before .before .before .before .before .pre .1) (c .before .before .before .before .before .before .before .before .before .before .before .before .before .before .before .pre .2) (c .before .before .before .before .before .before .before .before .before .loop .marks) (c .before .before .before .before .before .before .before .before .before .loop .found-serials) (c .before .before .before .before .before .before .before .before .before .loop .found-addresses) (c .before .before .before .before .before .before .before .before .before .loop .sent) (c .before .before .before .before .before .before .before .before .before .loop .inv) (c .before .before .before .before .before .before .before .before .loop-test .taken) (c .before .before .before .before .before .before .before .request-after .result) (c .before .before .before .before .before .before .before .request-after .ensures) (c .before .reply .given .0 .0) (c .before .reply .given .0 .1 .0) (c .before .reply .given .0 .1 .1 .0) (sym (c .before .before .before .before .before .respond .ensures .reply-is) ∙ c .before .reply .given .1) (c .before .before .before .before .before .respond .last .1 .1 .1 .0) (c .before .before .before .before .before .respond .ensures .marks-are) (c .before .before .before .before .before .respond .kept .1 .1 .1 .0)
+loop-again c = going-on (c .before .before .before .before .before .before .before .before .before .before .before .before .before .before .before .args .cap) (c .before .before .before .before .before .before .before .before .before .before .before .before .before .before .before .args .serials .now) (c .before .before .before .before .before .before .before .before .before .before .before .before .before .before .before .args .addresses .now) (c .before .before .before .before .before .before .before .before .before .before .before .before .before .before .before .args .marks .now) (c .before .before .before .before .before .before .before .before .before .before .before .before .before .before .before .args .found-serials .now) (c .before .before .before .before .before .before .before .before .before .before .before .before .before .before .before .args .found-addresses .now) (c .before .before .before .before .before .before .before .before .before .before .before .before .before .before .before .pre .0) (c .before .before .before .before .before .before .before .before .before .before .before .before .before .before .before .pre .1) (c .before .before .before .before .before .before .before .before .before .before .before .before .before .before .before .pre .2) (c .before .before .before .before .before .before .before .before .before .loop .marks) (c .before .before .before .before .before .before .before .before .before .loop .found-serials) (c .before .before .before .before .before .before .before .before .before .loop .found-addresses) (c .before .before .before .before .before .before .before .before .before .loop .sent) (c .before .before .before .before .before .before .before .before .before .loop .inv) (c .before .before .before .before .before .before .before .before .loop-test .taken) (c .before .before .before .before .before .before .before .request-after .result) (c .before .before .before .before .before .before .before .request-after .ensures) (c .before .heard .given .0 .0) (c .before .heard .given .0 .1 .0) (c .before .heard .given .0 .1 .1 .0) (sym (c .before .before .before .before .before .respond .ensures .answer-is) ∙ c .before .heard .given .1) (c .before .before .before .before .before .respond .last .1 .1 .1 .0) (c .before .before .before .before .before .respond .ensures .table-is) (c .before .before .before .before .before .respond .kept .1 .1 .1 .0)
 
 enum-told : tie.Need-enum-told Inv-loop μ-loop
 enum-told c = search needs
@@ -60,7 +61,7 @@ same-length-3 : tie.Need-same-length-3 Inv-loop μ-loop
 same-length-3 c = c .before .before .before .before .before .before .before .before .loop .inv .addresses-kept
 
 returns : tie.Need-returns Inv-loop μ-loop
-returns c = going-ended (c .before .before .before .before .before .before .before .before .before .before .before .before .before .before .args .cap) (c .before .before .before .before .before .before .before .before .before .before .before .before .before .before .args .serials .now) (c .before .before .before .before .before .before .before .before .before .before .before .before .before .before .args .addresses .now) (c .before .before .before .before .before .before .before .before .before .before .before .before .before .before .args .marks .now) (c .before .before .before .before .before .before .before .before .before .before .before .before .before .before .args .found-serials .now) (c .before .before .before .before .before .before .before .before .before .before .before .before .before .before .args .found-addresses .now) (c .before .before .before .before .before .before .before .before .before .before .before .before .before .before .pre .0) (c .before .before .before .before .before .before .before .before .before .before .before .before .before .before .pre .1) (c .before .before .before .before .before .before .before .before .before .before .before .before .before .before .pre .2) (c .before .before .before .before .before .before .before .before .loop .marks) (c .before .before .before .before .before .before .before .before .loop .found-serials) (c .before .before .before .before .before .before .before .before .loop .found-addresses) (c .before .before .before .before .before .before .before .before .loop .sent) (c .before .before .before .before .before .before .before .before .loop .inv) (c .before .before .before .before .before .before .before .loop-test .taken) (c .before .before .before .before .before .before .request-after .result) (c .before .before .before .before .before .before .request-after .ensures) (c .enum-told .given .0 .0) (c .before .before .before .before .respond .last .1 .1 .1 .0) (sym (c .before .before .before .before .respond .ensures .reply-is) ∙ c .enum-told .given .1) (c .before .before .before .before .respond .ensures .marks-are)
+returns c = going-ended (c .before .before .before .before .before .before .before .before .before .before .before .before .before .before .args .cap) (c .before .before .before .before .before .before .before .before .before .before .before .before .before .before .args .serials .now) (c .before .before .before .before .before .before .before .before .before .before .before .before .before .before .args .addresses .now) (c .before .before .before .before .before .before .before .before .before .before .before .before .before .before .args .marks .now) (c .before .before .before .before .before .before .before .before .before .before .before .before .before .before .args .found-serials .now) (c .before .before .before .before .before .before .before .before .before .before .before .before .before .before .args .found-addresses .now) (c .before .before .before .before .before .before .before .before .before .before .before .before .before .before .pre .0) (c .before .before .before .before .before .before .before .before .before .before .before .before .before .before .pre .1) (c .before .before .before .before .before .before .before .before .before .before .before .before .before .before .pre .2) (c .before .before .before .before .before .before .before .before .loop .marks) (c .before .before .before .before .before .before .before .before .loop .found-serials) (c .before .before .before .before .before .before .before .before .loop .found-addresses) (c .before .before .before .before .before .before .before .before .loop .sent) (c .before .before .before .before .before .before .before .before .loop .inv) (c .before .before .before .before .before .before .before .loop-test .taken) (c .before .before .before .before .before .before .request-after .result) (c .before .before .before .before .before .before .request-after .ensures) (columns (c .before .before .before .before .before .before .before .before .before .before .before .before .before .before .args .serials .now) (c .before .before .before .before .before .before .before .before .before .before .before .before .before .before .args .addresses .now) (c .before .before .before .before .respond .last .1 .1 .1 .0)) (c .before .before .before .before .respond .ensures .table-is) (c .enum-told .given .0 .0) (sym (c .before .before .before .before .respond .ensures .answer-is) ∙ c .enum-told .given .1)
 
 enum-told-2 : tie.Need-enum-told-2 Inv-loop μ-loop
 enum-told-2 c = search needs
@@ -78,7 +79,7 @@ same-length-6 : tie.Need-same-length-6 Inv-loop μ-loop
 same-length-6 c = c .before .before .before .before .before .before .before .before .loop .inv .addresses-kept
 
 returns-2 : tie.Need-returns-2 Inv-loop μ-loop
-returns-2 c = going-silent (c .before .before .before .before .before .before .before .before .before .before .before .before .before .before .args .cap) (c .before .before .before .before .before .before .before .before .before .before .before .before .before .before .args .serials .now) (c .before .before .before .before .before .before .before .before .before .before .before .before .before .before .args .addresses .now) (c .before .before .before .before .before .before .before .before .before .before .before .before .before .before .args .marks .now) (c .before .before .before .before .before .before .before .before .before .before .before .before .before .before .args .found-serials .now) (c .before .before .before .before .before .before .before .before .before .before .before .before .before .before .args .found-addresses .now) (c .before .before .before .before .before .before .before .before .before .before .before .before .before .before .pre .0) (c .before .before .before .before .before .before .before .before .before .before .before .before .before .before .pre .1) (c .before .before .before .before .before .before .before .before .before .before .before .before .before .before .pre .2) (c .before .before .before .before .before .before .before .before .loop .marks) (c .before .before .before .before .before .before .before .before .loop .found-serials) (c .before .before .before .before .before .before .before .before .loop .found-addresses) (c .before .before .before .before .before .before .before .before .loop .sent) (c .before .before .before .before .before .before .before .before .loop .inv) (c .before .before .before .before .before .before .before .loop-test .taken) (c .before .before .before .before .before .before .request-after .result) (c .before .before .before .before .before .before .request-after .ensures) (c .before .before .before .before .respond .last .1 .1 .1 .0) (sym (c .before .before .before .before .respond .ensures .reply-is) ∙ c .enum-told2 .given .1) (c .before .before .before .before .respond .ensures .marks-are)
+returns-2 c = going-silent (c .before .before .before .before .before .before .before .before .before .before .before .before .before .before .args .cap) (c .before .before .before .before .before .before .before .before .before .before .before .before .before .before .args .serials .now) (c .before .before .before .before .before .before .before .before .before .before .before .before .before .before .args .addresses .now) (c .before .before .before .before .before .before .before .before .before .before .before .before .before .before .args .marks .now) (c .before .before .before .before .before .before .before .before .before .before .before .before .before .before .args .found-serials .now) (c .before .before .before .before .before .before .before .before .before .before .before .before .before .before .args .found-addresses .now) (c .before .before .before .before .before .before .before .before .before .before .before .before .before .before .pre .0) (c .before .before .before .before .before .before .before .before .before .before .before .before .before .before .pre .1) (c .before .before .before .before .before .before .before .before .before .before .before .before .before .before .pre .2) (c .before .before .before .before .before .before .before .before .loop .marks) (c .before .before .before .before .before .before .before .before .loop .found-serials) (c .before .before .before .before .before .before .before .before .loop .found-addresses) (c .before .before .before .before .before .before .before .before .loop .sent) (c .before .before .before .before .before .before .before .before .loop .inv) (c .before .before .before .before .before .before .before .loop-test .taken) (c .before .before .before .before .before .before .request-after .result) (c .before .before .before .before .before .before .request-after .ensures) (columns (c .before .before .before .before .before .before .before .before .before .before .before .before .before .before .args .serials .now) (c .before .before .before .before .before .before .before .before .before .before .before .before .before .before .args .addresses .now) (c .before .before .before .before .respond .last .1 .1 .1 .0)) (c .before .before .before .before .respond .ensures .table-is) (sym (c .before .before .before .before .respond .ensures .answer-is) ∙ c .enum-told2 .given .1)
 
 same-length-7 : tie.Need-same-length-7 Inv-loop μ-loop
 same-length-7 c = c .before .loop .inv .marks-kept
@@ -101,7 +102,7 @@ run-spec =
     loop-holds
     request-after-requires
     respond-requires
-    enum-known-reply
+    enum-known-heard
     mul-found-serials
     slice-write-found-serials
     slice-write-found-addresses

@@ -1,8 +1,6 @@
 -- `ebus::address::initiator_nibble` meets its contract: each answer is picked by the tests that led there.
 -- Assumes nothing.
-use mathlib.Core.Path.{_≡_, sym, _∙_}
-use borrow.Author.Needs.{needs}
-use borrow.Author.Tests.{lt-ltb, le-ltb, le-leb, lt-leb, eq-eqb, ne-eqb}
+use borrow.Author.Tests.{eq-eqb, ne-eqb}
 use Rattle.ebus.specs.Address.{initiatorNibble}
 use Rattle.ebus.proofs.address.initiator_nibble.Statement.{statement}
 use Rattle.ebus.proofs.address.initiator_nibble.Tie as tie

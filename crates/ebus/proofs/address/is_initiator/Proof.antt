@@ -1,8 +1,7 @@
 -- `ebus::address::is_initiator` meets its contract: each answer is picked by the tests that led there.
 -- Assumes nothing.
-use mathlib.Core.Path.{_≡_, sym, _∙_}
+use mathlib.Core.Path.{sym, _∙_}
 use borrow.Author.Needs.{needs}
-use borrow.Author.Tests.{lt-ltb, le-ltb, le-leb, lt-leb, eq-eqb, ne-eqb}
 use Rattle.ebus.specs.Address.{initiator}
 use Rattle.ebus.proofs.address.is_initiator.Statement.{statement}
 use Rattle.ebus.proofs.address.is_initiator.Tie as tie

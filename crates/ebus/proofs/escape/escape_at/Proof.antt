@@ -3,7 +3,7 @@
 use mathlib.Core.Path.{sym, _∙_}
 use borrow.Author.Tests.{le-ltb}
 use Rattle.ebus.specs.Logical.{escapeAt}
-use Rattle.ebus.proofs.Half.{half-read, half-early, half-wrong}
+use Rattle.ebus.proofs.EscapeByAddition.{half-read, half-early, half-wrong}
 use borrow.Author.Needs.{needs}
 use Rattle.ebus.proofs.escape.escape_at.Statement.{statement}
 use Rattle.ebus.proofs.escape.escape_at.Tie as tie

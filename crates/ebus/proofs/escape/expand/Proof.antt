@@ -1,13 +1,12 @@
 -- `ebus::escape::expand` meets its contract: the length is worked out first, and the output is written only where it fits.
 -- Assumes nothing.
-use mathlib.Core.Path.{_≡_, refl, sym, ap, _∙_}
-use native.Mathlib.Omega.{arith}
+use mathlib.Core.Path.{_≡_, sym, ap}
 use lib.ListN.{length}
 use borrow.Author.Needs.{needs}
-use Rattle.refusal.specs.Output.{bytes, answer}
+use Rattle.refusal.specs.Output.{bytes, written}
 use Rattle.refusal.specs.declared.Written.the-variants.{Length}
-use Rattle.refusal.proofs.Writer.{accepted, accepted-length, wrote-refused, wrote-short, wrote-all}
-use Rattle.crc.specs.Escape.{expanded}
+use Rattle.refusal.proofs.Writer.{wrote-short, wrote-all}
+use Rattle.ebus.specs.Escape.{expanded}
 use Rattle.ebus.proofs.escape.expand.Statement.{statement}
 use Rattle.ebus.proofs.escape.expand.Tie as tie
 
@@ -22,7 +21,7 @@ returns c =
     let wire = expanded (c .before .before .before .before .before .args .logical .now) in
     let old = c .before .before .before .before .before .args .out .now in
     let n = c .before .before .expanded-length .result in
-    let e : answer (bytes wire) ≡ Length n = ap Length (sym (c .before .before .expanded-length .ensures)) in
+    let e : written (bytes wire) ≡ Length n = ap Length (sym (c .before .before .expanded-length .ensures)) in
     wrote-short (bytes wire) (length old) old n e (c .too-short .result) (c .before .if1 .taken) (c .too-short .ensures)
 
 expand-into-requires : tie.Need-expand-into-requires
@@ -36,7 +35,7 @@ returns-2 c =
     let wire = expanded (c .before .before .before .before .before .before .before .before .args .logical .now) in
     let old = c .before .before .before .before .before .before .before .before .args .out .now in
     let n = c .before .before .before .before .before .expanded-length .result in
-    let e : answer (bytes wire) ≡ Length n = ap Length (sym (c .before .before .before .before .before .expanded-length .ensures)) in
+    let e : written (bytes wire) ≡ Length n = ap Length (sym (c .before .before .before .before .before .expanded-length .ensures)) in
     wrote-all (bytes wire) (length old) old n e (c .before .before .expand-into .last .1 .0) (c .before .before .before .before .if1 .left) (c .before .before .expand-into .ensures)
 
 pub expand-spec : {M : Type 1} → statement M

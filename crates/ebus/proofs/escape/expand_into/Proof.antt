@@ -1,15 +1,15 @@
 -- `ebus::escape::expand_into` meets its contract. The loop's invariant: the output starts with the first n raw bytes,
 -- and what is left of them is what the bytes not yet read take.
 -- Assumes nothing.
-use mathlib.Core.Path.{_≡_, refl, sym, ap, _∙_}
+use mathlib.Core.Path.{_≡_, refl, ap, _∙_}
 use mathlib.Core.Logic.{_⊎_, ⊎-elim}
-use Prim.Native.Nat.{ℕ, _+_, _-_, _≤_, _<_}
+use Prim.Native.Nat.{ℕ, _-_, _≤_}
 use native.Mathlib.Omega.{arith}
-use lib.ListN.{length, getD, take, drop, drop-of-length-le, length-drop}
-use Rattle.refusal.specs.Output.{starting}
-use Rattle.refusal.proofs.Lists.{starting-all, length-starting-take}
-use Rattle.crc.specs.Escape.{esc, syn, expanded}
-use Rattle.crc.proofs.Escape.{special}
+use lib.ListN.{length, getD, take, drop-of-length-le, length-drop}
+use Rattle.lists.specs.Starting.{starting}
+use Rattle.lists.proofs.Filling.{starting-all, length-starting-take}
+use Rattle.ebus.specs.Escape.{esc, syn, expanded}
+use Rattle.ebus.proofs.Escaped.{special}
 use Rattle.ebus.proofs.Expand.{Filled, Stored, stored, StoredTwo, stored-two}
 use Rattle.ebus.proofs.escape.expand_into.Statement.{statement}
 use Rattle.ebus.proofs.escape.expand_into.Tie as tie

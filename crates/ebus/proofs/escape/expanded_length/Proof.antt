@@ -1,13 +1,12 @@
 -- `ebus::escape::expanded_length` meets its contract. The loop's invariant: n, and what the bytes not yet read take, make the whole length.
 -- Assumes nothing.
-use mathlib.Core.Path.{_≡_, refl, sym, ap, _∙_, subst}
+use mathlib.Core.Path.{_≡_, ap}
 use mathlib.Core.Logic.{⊎-elim}
-use Prim.Native.Nat.{ℕ, _+_, _-_, _*_, _≤_, _<_}
+use Prim.Native.Nat.{_+_, _-_, _*_, _≤_}
 use native.Mathlib.Omega.{arith}
-use lib.ListN.{length, getD, take, drop, set, drop-of-length-le, length-append, length-set}
-use borrow.Author.Needs.{needs}
-use Rattle.crc.specs.Escape.{esc, syn, expanded}
-use Rattle.crc.proofs.Escape.{special, expanded-plain, expanded-special}
+use lib.ListN.{length, getD, drop, drop-of-length-le}
+use Rattle.ebus.specs.Escape.{esc, syn, expanded}
+use Rattle.ebus.proofs.Escaped.{special, expanded-plain, expanded-special}
 use Rattle.ebus.proofs.escape.expanded_length.Statement.{statement}
 use Rattle.ebus.proofs.escape.expanded_length.Tie as tie
 

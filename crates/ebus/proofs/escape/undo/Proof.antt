@@ -1,10 +1,10 @@
 -- `ebus::escape::undo` meets its contract: the length is worked out first, and the output is written only where it fits.
 -- Assumes nothing.
-use mathlib.Core.Path.{_≡_, refl, sym, ap, _∙_}
+use mathlib.Core.Path.{_≡_, sym, _∙_}
 use native.Mathlib.Omega.{arith}
 use lib.ListN.{length}
 use borrow.Author.Needs.{needs}
-use Rattle.refusal.specs.Output.{bytes, answer}
+use Rattle.refusal.specs.Output.{written}
 use Rattle.refusal.specs.declared.Written.the-variants.{Length}
 use Rattle.refusal.proofs.Writer.{accepted, accepted-length, wrote-refused, wrote-short, wrote-all}
 use Rattle.ebus.specs.Undo.{undone}
@@ -32,7 +32,7 @@ returns-2 c =
     let out = undone (c .before .before .before .before .before .before .before .before .args .raw .now) in
     let old = c .before .before .before .before .before .before .before .before .args .out .now in
     let n = c .before .before .before .counted .given .0 .0 in
-    let e : answer out ≡ Length n = sym (c .before .before .before .before .before .undone-length .ensures) ∙ c .before .before .before .counted .given .1 in
+    let e : written out ≡ Length n = sym (c .before .before .before .before .before .undone-length .ensures) ∙ c .before .before .before .counted .given .1 in
     wrote-short out (length old) old n e (c .too-short .result) (c .before .if1 .taken) (c .too-short .ensures)
 
 undo-into-requires : tie.Need-undo-into-requires
@@ -40,7 +40,7 @@ undo-into-requires c κs =
     let out = undone (c .before .before .before .before .before .before .before .before .args .raw .now) in
     let old = c .before .before .before .before .before .before .before .before .args .out .now in
     let n = c .before .before .before .counted .given .0 .0 in
-    let e : answer out ≡ Length n = sym (c .before .before .before .before .before .undone-length .ensures) ∙ c .before .before .before .counted .given .1 in
+    let e : written out ≡ Length n = sym (c .before .before .before .before .before .undone-length .ensures) ∙ c .before .before .before .counted .given .1 in
     (accepted out n e, omega (arith, accepted-length out n e))
 
 same-length : tie.Need-same-length
@@ -51,7 +51,7 @@ returns-3 c =
     let out = undone (c .before .before .before .before .before .before .before .before .before .before .before .args .raw .now) in
     let old = c .before .before .before .before .before .before .before .before .before .before .before .args .out .now in
     let n = c .before .before .before .before .before .before .counted .given .0 .0 in
-    let e : answer out ≡ Length n = sym (c .before .before .before .before .before .before .before .before .undone-length .ensures) ∙ c .before .before .before .before .before .before .counted .given .1 in
+    let e : written out ≡ Length n = sym (c .before .before .before .before .before .before .before .before .undone-length .ensures) ∙ c .before .before .before .before .before .before .counted .given .1 in
     wrote-all out (length old) old n e (c .before .before .undo-into .last .1 .0) (c .before .before .before .before .if1 .left) (c .before .before .undo-into .ensures)
 
 pub undo-spec : {M : Type 1} → statement M

@@ -2,14 +2,15 @@
 -- and the rest of the input gives the others.
 -- Assumes nothing.
 use mathlib.Core.Path.{_≡_, refl, sym, ap, _∙_}
-use mathlib.Core.List.{List, []}
-use Prim.Native.Nat.{ℕ, _-_, _≤_}
+use mathlib.Core.List.{[]}
+use Prim.Native.Nat.{ℕ, _-_}
 use native.Mathlib.Nat.{sub-zero}
 use native.Mathlib.Omega.{arith}
 use lib.ListN.{length, take, drop, length-drop}
 use borrow.Author.Needs.{needs}
-use Rattle.refusal.specs.Output.{bytes, content, starting}
-use Rattle.refusal.proofs.Lists.{starting-all, length-starting-take}
+use Rattle.lists.specs.Starting.{starting}
+use Rattle.refusal.specs.Output.{bytes, content}
+use Rattle.lists.proofs.Filling.{starting-all, length-starting-take}
 use Rattle.ebus.specs.Undo.{undoneFrom, undone}
 use Rattle.ebus.proofs.Undo.{none-left, Undoing, never-refused, Undid, undid}
 use Rattle.ebus.proofs.escape.undo_into.Statement.{statement}

@@ -1,23 +1,22 @@
--- `ebus::escape::undone_length` meets its contract. The loop's invariant: the answer from the start is the answer from here, with the n bytes already read counted.
+-- `ebus::escape::undone_length` meets its contract. The loop's invariant: the written from the start is the written from here, with the n bytes already read counted.
 -- Assumes nothing.
-use mathlib.Core.Path.{_≡_, refl, sym, ap, _∙_, subst}
-use mathlib.Core.List.{List, [], _∷_}
-use Prim.Native.Nat.{ℕ, _+_, _-_, _≤_, _<_}
+use mathlib.Core.Path.{_≡_, sym, ap, _∙_}
+use Prim.Native.Nat.{ℕ, _+_, _-_, _≤_}
 use native.Mathlib.Nat.{sub-zero, add-zero}
 use native.Mathlib.Omega.{arith}
-use lib.ListN.{length, getD, take, drop, set}
+use lib.ListN.{length}
 use borrow.Author.Needs.{needs}
-use Rattle.refusal.specs.Output.{bytes, content, answer, starting}
+use Rattle.refusal.specs.Output.{written}
 use Rattle.refusal.specs.declared.Written.the-variants.{Length}
-use Rattle.ebus.specs.declared.escape.Logical.the-variants.{Byte, Refused}
+use Rattle.ebus.specs.declared.escape.Logical.the-variants.{Byte}
 use Rattle.ebus.specs.Logical.{logicalAt}
 use Rattle.ebus.specs.Undo.{before, undoneFrom, undone}
-use Rattle.ebus.proofs.Undo.{stands, none-left, turn-byte, turn-refused, counted, counted-none, counted-one, before-bytes}
+use Rattle.ebus.proofs.Undo.{stands, none-left, turn-byte, turn-refused, counted, counted-none, counted-one}
 use Rattle.ebus.proofs.escape.undone_length.Statement.{statement}
 use Rattle.ebus.proofs.escape.undone_length.Tie as tie
 
 abbrev Inv-loop : tie.InvT-loop
-Inv-loop raw at₀ n₀ at n = (n ≤ at) × (at ≤ length raw) × (counted n (undoneFrom raw (length raw - n) at) ≡ answer (undone raw))
+Inv-loop raw at₀ n₀ at n = (n ≤ at) × (at ≤ length raw) × (counted n (undoneFrom raw (length raw - n) at) ≡ written (undone raw))
 
 abbrev μ-loop : tie.MeasureT-loop
 μ-loop raw at₀ n₀ at n = length raw - at

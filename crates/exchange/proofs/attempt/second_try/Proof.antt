@@ -6,8 +6,8 @@ use native.Mathlib.Omega.{arith}
 use lib.ListN.{take}
 use Rattle.refusal.specs.Number.{at-place}
 use Rattle.exchange.specs.Exchange.{neither, onSecond}
-use Rattle.exchange.specs.View.{viewedAttempt, triesOf}
-use Rattle.exchange.specs.declared.attempt.Tries.{Tries as HeldTries}
+use Rattle.exchange.specs.Inner.{attemptAs, triesOf}
+use Rattle.exchange.specs.declared.attempt.Tries.{Tries as TriesStruct}
 use borrow.Author.Needs.{needs}
 use Rattle.exchange.proofs.attempt.second_try.Statement.{statement}
 use Rattle.exchange.proofs.attempt.second_try.Tie as tie
@@ -40,7 +40,7 @@ returns : tie.Need-returns
 returns c = let command = c .before .before .before .before .before .before .before .before .args .command in
     let a = c .before .before .before .before .attempt-at .result in
     let held = c .before .before .before .before .attempt-at .last .1 .1 .1 .0 in
-    let is = sym (c .before .before .before .before .attempt-at .ensures .0) ∙ ap (viewedAttempt held a) (c .enum-told .given .1) in
+    let is = sym (c .before .before .before .before .attempt-at .ensures .0) ∙ ap (attemptAs (take (a .len) held) (a .next)) (c .enum-told .given .1) in
     (λ first. sym (ap (onSecond command (take (c .before .before .before .before .before .before .before .before .args .len) first)) is), (omega arith, c .before .before .before .before .attempt-at .ensures .1))
 
 same-length-2 : tie.Need-same-length-2
@@ -50,9 +50,9 @@ returns-2 : tie.Need-returns-2
 returns-2 c = let command = c .before .before .before .before .before .before .before .before .before .before .args .command in
     let a = c .before .before .before .before .before .before .attempt-at .result in
     let held = c .before .before .before .before .before .before .attempt-at .last .1 .1 .1 .0 in
-    let is = sym (c .before .before .before .before .before .before .attempt-at .ensures .0) ∙ ap (viewedAttempt held a) (c .before .before .enum-told2 .given .1) in (
-      λ first. ap (λ (t : HeldTries). triesOf t first held) (c .no-tries .ensures) ∙ ap (λ (k : ℕ). neither (at-place k (a .next))) (c .before .nacked-twice .ensures) ∙ sym (ap (onSecond command (take (c .before .before .before .before .before .before .before .before .before .before .args .len) first)) is),
-      (omega (arith, ap (λ (t : HeldTries). t .len1) (c .no-tries .ensures)), omega (arith, ap (λ (t : HeldTries). t .len2) (c .no-tries .ensures))),
+    let is = sym (c .before .before .before .before .before .before .attempt-at .ensures .0) ∙ ap (attemptAs (take (a .len) held) (a .next)) (c .before .before .enum-told2 .given .1) in (
+      λ first. ap (λ (t : TriesStruct). triesOf t first held) (c .no-tries .ensures) ∙ ap (λ (k : ℕ). neither (at-place k (a .next))) (c .before .nacked-twice .ensures) ∙ sym (ap (onSecond command (take (c .before .before .before .before .before .before .before .before .before .before .args .len) first)) is),
+      (omega (arith, ap (λ (t : TriesStruct). t .len1) (c .no-tries .ensures)), omega (arith, ap (λ (t : TriesStruct). t .len2) (c .no-tries .ensures))),
     )
 
 same-length-3 : tie.Need-same-length-3
@@ -62,9 +62,9 @@ returns-3 : tie.Need-returns-3
 returns-3 c = let command = c .before .before .before .before .before .before .before .before .before .before .args .command in
     let a = c .before .before .before .before .before .before .attempt-at .result in
     let held = c .before .before .before .before .before .before .attempt-at .last .1 .1 .1 .0 in
-    let is = sym (c .before .before .before .before .before .before .attempt-at .ensures .0) ∙ ap (viewedAttempt held a) (c .before .before .standing .given .1) in (
-      λ first. ap (λ (t : HeldTries). triesOf t first held) (c .no-tries2 .ensures) ∙ sym (ap (onSecond command (take (c .before .before .before .before .before .before .before .before .before .before .args .len) first)) is),
-      (omega (arith, ap (λ (t : HeldTries). t .len1) (c .no-tries2 .ensures)), omega (arith, ap (λ (t : HeldTries). t .len2) (c .no-tries2 .ensures))),
+    let is = sym (c .before .before .before .before .before .before .attempt-at .ensures .0) ∙ ap (attemptAs (take (a .len) held) (a .next)) (c .before .before .standing .given .1) in (
+      λ first. ap (λ (t : TriesStruct). triesOf t first held) (c .no-tries2 .ensures) ∙ sym (ap (onSecond command (take (c .before .before .before .before .before .before .before .before .before .before .args .len) first)) is),
+      (omega (arith, ap (λ (t : TriesStruct). t .len1) (c .no-tries2 .ensures)), omega (arith, ap (λ (t : TriesStruct). t .len2) (c .no-tries2 .ensures))),
     )
 
 pub second-try-spec : {M : Type 1} → statement M

@@ -4,8 +4,8 @@ use mathlib.Core.Path.{sym, ap, _∙_}
 use native.Mathlib.Omega.{arith}
 use lib.Seq.{length-take-le}
 use Rattle.exchange.specs.Exchange.{settled}
-use Rattle.exchange.specs.View.{attemptOf}
-use Rattle.exchange.specs.declared.attempt.Attempt.{Attempt as Held}
+use Rattle.exchange.specs.Inner.{attemptOf}
+use Rattle.exchange.specs.declared.attempt.Attempt.{Attempt as AttemptStruct}
 use borrow.Author.Needs.{needs}
 use Rattle.exchange.proofs.attempt.settle.Statement.{statement}
 use Rattle.exchange.proofs.attempt.settle.Tie as tie
@@ -25,7 +25,7 @@ attempt-failed-requires c κs = search needs
 
 returns-2 : tie.Need-returns-2
 unfolding settled
-returns-2 c = (simp (sym (c .before .before .check-right .ensures) ∙ c .before .if1 .left) (ap (λ (a : Held). attemptOf a (c .before .before .before .before .before .args .bytes .now)) (c .attempt-failed .ensures)), omega (arith, ap (λ (a : Held). a .len) (c .attempt-failed .ensures)))
+returns-2 c = (simp (sym (c .before .before .check-right .ensures) ∙ c .before .if1 .left) (ap (λ (a : AttemptStruct). attemptOf a (c .before .before .before .before .before .args .bytes .now)) (c .attempt-failed .ensures)), omega (arith, ap (λ (a : AttemptStruct). a .len) (c .attempt-failed .ensures)))
 
 pub settle-spec : {M : Type 1} → statement M
 settle-spec =

@@ -4,11 +4,11 @@ use mathlib.Core.Path.{_≡_, sym, ap, _∙_}
 use native.Mathlib.Omega.{arith}
 use lib.ListN.{length, getD, take}
 use lib.Seq.{length-take-le}
-use Rattle.refusal.proofs.Lists.{put-whole}
+use Rattle.lists.proofs.Filling.{put-whole}
 use Rattle.ebus.specs.Address.{kindOf}
 use Rattle.exchange.specs.Exchange.{onKind}
-use Rattle.exchange.specs.View.{viewedReplies, repliesOf}
-use Rattle.exchange.proofs.Rooms.{refuses, accepts}
+use Rattle.exchange.specs.Inner.{outcomeAs, repliesOf}
+use Rattle.exchange.proofs.Buffers.{refuses, accepts}
 use borrow.Author.Needs.{needs}
 use Rattle.exchange.proofs.judge.finish.Statement.{statement}
 use Rattle.exchange.proofs.judge.finish.Tie as tie
@@ -42,7 +42,7 @@ returns c = let run = c .before .before .before .before .before .before .before 
     let one = c .before .before .before .before .after-command .last .1 .1 .1 .1 .0 in
     let two = c .before .before .before .before .after-command .last .1 .1 .1 .1 .1 .0 in
     let whole : o ≡ repliesOf e bytes one two = sym (c .before .before .before .before .after-command .ensures .0 bytes) in
-    refuses o command first second (c .enum-told2 .given .0 .0) (e .verdict) (whole ∙ ap (viewedReplies bytes one two e) (c .enum-told2 .given .1)) (c .enum-told2 .given .1)
+    refuses o command first second (c .enum-told2 .given .0 .0) (e .verdict) (whole ∙ ap (outcomeAs bytes (take (e .len1) one) (take (e .len2) two)) (c .enum-told2 .given .1)) (c .enum-told2 .given .1)
 
 slice-aggregate-put : tie.Need-slice-aggregate-put
 slice-aggregate-put c = sym (length-take-le (c .before .before .before .before .before .before .before .before .before .before .before .before .before .before .args .len) (c .before .before .before .before .before .before .before .before .before .before .before .before .before .before .args .bytes .now) (omega (arith, c .before .before .before .before .before .before .before .before .before .before .before .before .before .before .pre .1)))

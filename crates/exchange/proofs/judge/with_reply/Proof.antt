@@ -2,11 +2,12 @@
 -- Assumes nothing.
 use mathlib.Core.Path.{sym, ap, _∙_}
 use native.Mathlib.Omega.{arith}
+use lib.ListN.{take}
 use Rattle.ebus.specs.declared.address.ExchangeKind.the-variants.{InitiatorTarget}
 use Rattle.exchange.specs.Exchange.{synAt, onReply}
-use Rattle.exchange.specs.View.{viewedTries}
-use Rattle.exchange.proofs.Verdict.{outcome-at}
-use Rattle.exchange.specs.declared.judge.Replies.{Replies as HeldReplies}
+use Rattle.exchange.specs.Inner.{triesAs}
+use Rattle.exchange.proofs.OutcomeBySyn.{outcome-at}
+use Rattle.exchange.specs.declared.judge.Replies.{Replies as RepliesStruct}
 use borrow.Author.Needs.{needs}
 use Rattle.exchange.proofs.judge.with_reply.Statement.{statement}
 use Rattle.exchange.proofs.judge.with_reply.Tie as tie
@@ -40,9 +41,9 @@ returns c = let run = c .before .before .before .before .before .before .before 
     let t = c .before .before .before .before .before .before .before .tries-at .result in
     let first = c .before .before .before .before .before .before .before .tries-at .last .1 .1 .1 .0 in
     let second = c .before .before .before .before .before .before .before .tries-at .last .1 .1 .1 .1 .0 in
-    let is = sym (c .before .before .before .before .before .before .before .tries-at .ensures .0) ∙ ap (viewedTries first second t) (c .before .enum-told .given .1) in
-    let e : HeldReplies = record { len1 = t .len1; len2 = 0; verdict = c .verdict-at .result } in (
-      λ command. outcome-at command first second e InitiatorTarget (c .before .before .before .before .before .before .before .before .before .before .before .before .before .args .commands) 1 (synAt run (t .next)) (c .verdict-at .result) (c .verdict-at .ensures) ∙ sym (ap (onReply (c .before .before .before .before .before .before .before .before .before .before .before .before .before .args .commands) command run) is),
+    let is = sym (c .before .before .before .before .before .before .before .tries-at .ensures .0) ∙ ap (triesAs (take (t .len1) first) (take (t .len2) second) (t .next)) (c .before .enum-told .given .1) in
+    let e : RepliesStruct = record { len1 = t .len1; len2 = 0; verdict = c .verdict-at .result } in (
+      λ command. outcome-at command (take (e .len1) first) (take (e .len2) second) InitiatorTarget (c .before .before .before .before .before .before .before .before .before .before .before .before .before .args .commands) 1 (synAt run (t .next)) (c .verdict-at .result) (c .verdict-at .ensures) ∙ sym (ap (onReply (c .before .before .before .before .before .before .before .before .before .before .before .before .before .args .commands) command run) is),
       (omega (arith, c .before .before .before .before .before .before .before .tries-at .ensures .1 .0), omega arith),
     )
 
@@ -57,9 +58,9 @@ returns-2 c = let run = c .before .before .before .before .before .before .befor
     let t = c .before .before .before .before .before .before .before .tries-at .result in
     let first = c .before .before .before .before .before .before .before .tries-at .last .1 .1 .1 .0 in
     let second = c .before .before .before .before .before .before .before .tries-at .last .1 .1 .1 .1 .0 in
-    let is = sym (c .before .before .before .before .before .before .before .tries-at .ensures .0) ∙ ap (viewedTries first second t) (c .before .enum-told2 .given .1) in
-    let e : HeldReplies = record { len1 = t .len1; len2 = t .len2; verdict = c .verdict-at2 .result } in (
-      λ command. outcome-at command first second e InitiatorTarget (c .before .before .before .before .before .before .before .before .before .before .before .before .before .args .commands) 2 (synAt run (t .next)) (c .verdict-at2 .result) (c .verdict-at2 .ensures) ∙ sym (ap (onReply (c .before .before .before .before .before .before .before .before .before .before .before .before .before .args .commands) command run) is),
+    let is = sym (c .before .before .before .before .before .before .before .tries-at .ensures .0) ∙ ap (triesAs (take (t .len1) first) (take (t .len2) second) (t .next)) (c .before .enum-told2 .given .1) in
+    let e : RepliesStruct = record { len1 = t .len1; len2 = t .len2; verdict = c .verdict-at2 .result } in (
+      λ command. outcome-at command (take (e .len1) first) (take (e .len2) second) InitiatorTarget (c .before .before .before .before .before .before .before .before .before .before .before .before .before .args .commands) 2 (synAt run (t .next)) (c .verdict-at2 .result) (c .verdict-at2 .ensures) ∙ sym (ap (onReply (c .before .before .before .before .before .before .before .before .before .before .before .before .before .args .commands) command run) is),
       (omega (arith, c .before .before .before .before .before .before .before .tries-at .ensures .1 .0), omega (arith, c .before .before .before .before .before .before .before .tries-at .ensures .1 .1)),
     )
 
@@ -74,7 +75,7 @@ returns-3 c = let run = c .before .before .before .before .before .before .befor
     let t = c .before .before .before .before .before .before .before .tries-at .result in
     let first = c .before .before .before .before .before .before .before .tries-at .last .1 .1 .1 .0 in
     let second = c .before .before .before .before .before .before .before .tries-at .last .1 .1 .1 .1 .0 in
-    let is = sym (c .before .before .before .before .before .before .before .tries-at .ensures .0) ∙ ap (viewedTries first second t) (c .before .tried .given .1) in (λ command. sym (ap (onReply (c .before .before .before .before .before .before .before .before .before .before .before .before .before .args .commands) command run) is), (omega arith, omega arith))
+    let is = sym (c .before .before .before .before .before .before .before .tries-at .ensures .0) ∙ ap (triesAs (take (t .len1) first) (take (t .len2) second) (t .next)) (c .before .tried .given .1) in (λ command. sym (ap (onReply (c .before .before .before .before .before .before .before .before .before .before .before .before .before .args .commands) command run) is), (omega arith, omega arith))
 
 pub with-reply-spec : {M : Type 1} → statement M
 with-reply-spec =

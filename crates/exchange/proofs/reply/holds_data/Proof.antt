@@ -2,6 +2,7 @@
 -- Assumes nothing.
 use mathlib.Core.Path.{sym}
 use Rattle.exchange.proofs.Data.{holds, holds-empty, holds-over, holds-past}
+use native.Mathlib.Omega.{arith}
 use borrow.Author.Needs.{needs}
 use Rattle.exchange.proofs.reply.holds_data.Statement.{statement}
 use Rattle.exchange.proofs.reply.holds_data.Tie as tie
@@ -16,7 +17,7 @@ returns-2 : tie.Need-returns-2
 returns-2 c = sym (holds-over (c .before .before .before .args .buffer .now) (c .before .before .if1 .left) (c .if2 .taken))
 
 cast-size : tie.Need-cast-size
-cast-size c = search needs
+cast-size c = record { fits = omega (arith, c .shared-slice-known .given 0) }
 
 add-if3 : tie.Need-add-if3
 add-if3 c = search needs
@@ -30,4 +31,4 @@ returns-4 c = sym (holds (c .before .before .before .before .args .buffer .now) 
 pub holds-data-spec : {M : Type 1} → statement M
 holds-data-spec =
     tie.close
-    (tie.spec returns shared-slice-read-n returns-2 cast-size add-if3 returns-3 returns-4)
+    (tie.spec returns shared-slice-read-n cast-size returns-2 add-if3 returns-3 returns-4)

@@ -1,13 +1,12 @@
 -- `exchange::reply::reply_data` meets its contract: the attempt picks the buffer, and the part lies behind its LEN.
 -- Assumes nothing.
-use mathlib.Core.Path.{_≡_, sym, ap, _∙_}
+use mathlib.Core.Path.{_≡_, sym, _∙_}
 use mathlib.Core.Bool.{true}
-use Prim.Native.Nat.{ℕ, _+_, _-_, _<_}
+use Prim.Native.Nat.{_<_}
 use native.Mathlib.Omega.{arith}
-use lib.ListN.{length, getD, take, drop}
-use borrow.Author.Tests.{eq-eqb, ne-eqb}
-use Rattle.exchange.specs.Data.{holdsData, replyData}
-use Rattle.exchange.proofs.Data.{held-within, data-held, data-none}
+use lib.ListN.{length}
+use Rattle.exchange.specs.Data.{holdsData}
+use Rattle.exchange.proofs.Data.{held-within, part-held, part-none, asked-first, asked-second, no-attempt, shows-first, shows-second, shows-nothing}
 use borrow.Author.Needs.{needs}
 use Rattle.exchange.proofs.reply.reply_data.Statement.{statement}
 use Rattle.exchange.proofs.reply.reply_data.Tie as tie
@@ -44,18 +43,13 @@ part-result-end c = let held : holdsData (c .before .before .before .before .bef
     omega (arith, within .1)
 
 returns : tie.Need-returns
-unfolding replyData
-returns c = let held : holdsData (c .before .before .before .before .before .before .before .args .first .now) ≡ true = sym (c .before .before .before .holds-data .ensures) ∙ c .before .before .if2 .taken in
-    let within = held-within (c .before .before .before .before .before .before .before .args .first .now) held in
-    let size : getD (c .before .before .before .before .before .before .before .args .first .now) 0 0 + 1 - 1 ≡ getD (c .before .before .before .before .before .before .before .args .first .now) 0 0 = omega arith in
-    simp (eq-eqb _ _ (c .before .before .before .before .if1 .taken)) (ap (λ (k : ℕ). take k (drop 1 (c .before .before .before .before .before .before .before .args .first .now))) size ∙ sym (data-held (c .before .before .before .before .before .before .before .args .first .now) held))
+returns c = shows-first (c .before .before .before .before .before .before .before .args .first .now) (c .before .before .before .before .before .before .before .args .second .now) (c .before .before .before .before .before .before .before .args .attempt) (c .before .before .before .before .before .before .before .args .first .ptr) (c .before .before .before .before .before .before .before .args .second .ptr) (asked-first (c .before .before .before .before .before .before .before .args .first .now) (c .before .before .before .before .before .before .before .args .second .now) (c .before .before .before .before .before .before .before .args .attempt) (c .before .before .before .before .if1 .taken) ∙ part-held 1 (c .before .before .before .before .before .before .before .args .first .now) (sym (c .before .before .before .holds-data .ensures) ∙ c .before .before .if2 .taken))
 
 slice-aggregate-result : tie.Need-slice-aggregate-result
 slice-aggregate-result c = search needs
 
 returns-2 : tie.Need-returns-2
-unfolding replyData
-returns-2 c = simp (eq-eqb _ _ (c .before .before .before .if1 .taken)) (sym (data-none (c .before .before .before .before .before .before .args .first .now) (sym (c .before .before .holds-data .ensures) ∙ c .before .if2 .left)))
+returns-2 c = shows-nothing (c .before .before .before .before .before .before .args .first .now) (c .before .before .before .before .before .before .args .second .now) (c .before .before .before .before .before .before .args .attempt) (c .before .before .before .before .before .before .args .first .ptr) (c .before .before .before .before .before .before .args .second .ptr) (asked-first (c .before .before .before .before .before .before .args .first .now) (c .before .before .before .before .before .before .args .second .now) (c .before .before .before .before .before .before .args .attempt) (c .before .before .before .if1 .taken) ∙ part-none 1 (c .before .before .before .before .before .before .args .first .now) (sym (c .before .before .holds-data .ensures) ∙ c .before .if2 .left))
 
 holds-data-requires-2 : tie.Need-holds-data-requires-2
 holds-data-requires-2 c κs = search needs
@@ -89,25 +83,19 @@ part-result-end-2 c = let held : holdsData (c .before .before .before .before .b
     omega (arith, within .1)
 
 returns-3 : tie.Need-returns-3
-unfolding replyData
-returns-3 c = let held : holdsData (c .before .before .before .before .before .before .before .before .args .second .now) ≡ true = sym (c .before .before .before .holds-data2 .ensures) ∙ c .before .before .if4 .taken in
-    let within = held-within (c .before .before .before .before .before .before .before .before .args .second .now) held in
-    let size : getD (c .before .before .before .before .before .before .before .before .args .second .now) 0 0 + 1 - 1 ≡ getD (c .before .before .before .before .before .before .before .before .args .second .now) 0 0 = omega arith in
-    simp (ne-eqb _ _ (c .before .before .before .before .before .if1 .left), eq-eqb _ _ (c .before .before .before .before .if3 .taken)) (ap (λ (k : ℕ). take k (drop 1 (c .before .before .before .before .before .before .before .before .args .second .now))) size ∙ sym (data-held (c .before .before .before .before .before .before .before .before .args .second .now) held))
+returns-3 c = shows-second (c .before .before .before .before .before .before .before .before .args .first .now) (c .before .before .before .before .before .before .before .before .args .second .now) (c .before .before .before .before .before .before .before .before .args .attempt) (c .before .before .before .before .before .before .before .before .args .first .ptr) (c .before .before .before .before .before .before .before .before .args .second .ptr) (asked-second (c .before .before .before .before .before .before .before .before .args .first .now) (c .before .before .before .before .before .before .before .before .args .second .now) (c .before .before .before .before .before .before .before .before .args .attempt) (c .before .before .before .before .before .if1 .left) (c .before .before .before .before .if3 .taken) ∙ part-held 2 (c .before .before .before .before .before .before .before .before .args .second .now) (sym (c .before .before .before .holds-data2 .ensures) ∙ c .before .before .if4 .taken))
 
 slice-aggregate-result-2 : tie.Need-slice-aggregate-result-2
 slice-aggregate-result-2 c = search needs
 
 returns-4 : tie.Need-returns-4
-unfolding replyData
-returns-4 c = simp (ne-eqb _ _ (c .before .before .before .before .if1 .left), eq-eqb _ _ (c .before .before .before .if3 .taken)) (sym (data-none (c .before .before .before .before .before .before .before .args .second .now) (sym (c .before .before .holds-data2 .ensures) ∙ c .before .if4 .left)))
+returns-4 c = shows-nothing (c .before .before .before .before .before .before .before .args .first .now) (c .before .before .before .before .before .before .before .args .second .now) (c .before .before .before .before .before .before .before .args .attempt) (c .before .before .before .before .before .before .before .args .first .ptr) (c .before .before .before .before .before .before .before .args .second .ptr) (asked-second (c .before .before .before .before .before .before .before .args .first .now) (c .before .before .before .before .before .before .before .args .second .now) (c .before .before .before .before .before .before .before .args .attempt) (c .before .before .before .before .if1 .left) (c .before .before .before .if3 .taken) ∙ part-none 2 (c .before .before .before .before .before .before .before .args .second .now) (sym (c .before .before .holds-data2 .ensures) ∙ c .before .if4 .left))
 
 slice-aggregate-result-3 : tie.Need-slice-aggregate-result-3
 slice-aggregate-result-3 c = search needs
 
 returns-5 : tie.Need-returns-5
-unfolding replyData
-returns-5 c = simp (ne-eqb _ _ (c .before .before .if1 .left), ne-eqb _ _ (c .before .if3 .left))
+returns-5 c = shows-nothing (c .before .before .before .before .before .args .first .now) (c .before .before .before .before .before .args .second .now) (c .before .before .before .before .before .args .attempt) (c .before .before .before .before .before .args .first .ptr) (c .before .before .before .before .before .args .second .ptr) (no-attempt (c .before .before .before .before .before .args .first .now) (c .before .before .before .before .before .args .second .now) (c .before .before .before .before .before .args .attempt) (c .before .before .if1 .left) (c .before .if3 .left))
 
 pub reply-data-spec : {M : Type 1} → statement M
 reply-data-spec =

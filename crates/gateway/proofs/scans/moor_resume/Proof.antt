@@ -1,7 +1,7 @@
 -- `gateway::scans::moor_resume` meets its contract: what the devices give, as numbers.
 -- Assumes nothing.
-use mathlib.Core.Path.{ap, _∙_}
-use Rattle.answers.specs.Answers.{deviceAnswer}
+use Rattle.boundary.specs.ForC.{responseForC}
+use Rattle.devices.proofs.CallCases.{gives-shown}
 use borrow.Author.Needs.{needs}
 use Rattle.gateway.proofs.scans.moor_resume.Statement.{statement}
 use Rattle.gateway.proofs.scans.moor_resume.Tie as tie
@@ -9,8 +9,8 @@ use Rattle.gateway.proofs.scans.moor_resume.Tie as tie
 resume-requires : tie.Need-resume-requires
 resume-requires c κs = search needs
 
-device-answer-requires : tie.Need-device-answer-requires
-device-answer-requires c κs = search needs
+response-for-c-requires : tie.Need-response-for-c-requires
+response-for-c-requires c κs = search needs
 
 same-length : tie.Need-same-length
 same-length c = search needs
@@ -19,8 +19,8 @@ same-length-2 : tie.Need-same-length-2
 same-length-2 c = search needs
 
 returns : tie.Need-returns
-returns c = record { result = c .device-answer .ensures ∙ ap deviceAnswer (c .before .before .before .before .before .resume .ensures .answer-is); buffer-is = c .before .before .before .before .before .resume .ensures .buffer-is; marks-are = c .before .before .before .before .before .resume .ensures .marks-are }
+returns c = gives-shown responseForC _ _ _ _ _ (c .response-for-c .ensures) (c .before .before .before .before .before .resume .ensures)
 
 pub moor-resume-spec : {M : Type 1} → statement M
 moor-resume-spec =
-    tie.close (tie.spec resume-requires device-answer-requires same-length same-length-2 returns)
+    tie.close (tie.spec resume-requires response-for-c-requires same-length same-length-2 returns)

@@ -1,6 +1,8 @@
--- `gateway::telegrams::moor_reply_data` meets its contract: the attempt picks the buffer, and the part shows the data.
+-- `gateway::telegrams::moor_reply_data` meets its contract: the attempt picks the buffer.
 -- Assumes nothing.
-use Rattle.gateway.proofs.Shown.{shows-first, shows-second, shows-neither}
+use mathlib.Core.Path.{sym, ap, _∙_}
+use Rattle.exchange.proofs.Data.{asked-first, asked-second, no-attempt}
+use Rattle.gateway.specs.Lent.{partForC}
 use borrow.Author.Needs.{needs}
 use Rattle.gateway.proofs.telegrams.moor_reply_data.Statement.{statement}
 use Rattle.gateway.proofs.telegrams.moor_reply_data.Tie as tie
@@ -9,19 +11,19 @@ part-in-requires : tie.Need-part-in-requires
 part-in-requires c κs = search needs
 
 returns : tie.Need-returns
-returns c = shows-first (c .before .before .before .before .args .reply-1 .now) (c .before .before .before .before .args .reply-2 .now) (c .before .before .before .before .args .attempt) (c .part-in .result) (c .before .if1 .taken) (c .part-in .ensures)
+returns c = c .part-in .ensures ∙ ap partForC (sym (asked-first (c .before .before .before .before .args .reply-1 .now) (c .before .before .before .before .args .reply-2 .now) (c .before .before .before .before .args .attempt) (c .before .if1 .taken)))
 
 part-in-requires-2 : tie.Need-part-in-requires-2
 part-in-requires-2 c κs = search needs
 
 returns-2 : tie.Need-returns-2
-returns-2 c = shows-second (c .before .before .before .before .before .args .reply-1 .now) (c .before .before .before .before .before .args .reply-2 .now) (c .before .before .before .before .before .args .attempt) (c .part-in2 .result) (c .before .before .if1 .left) (c .before .if2 .taken) (c .part-in2 .ensures)
+returns-2 c = c .part-in2 .ensures ∙ ap partForC (sym (asked-second (c .before .before .before .before .before .args .reply-1 .now) (c .before .before .before .before .before .args .reply-2 .now) (c .before .before .before .before .before .args .attempt) (c .before .before .if1 .left) (c .before .if2 .taken)))
 
 empty-start-requires : tie.Need-empty-start-requires
 empty-start-requires c κs = search needs
 
 returns-3 : tie.Need-returns-3
-returns-3 c = shows-neither (c .before .before .before .before .before .args .reply-1 .now) (c .before .before .before .before .before .args .reply-2 .now) (c .before .before .before .before .before .args .attempt) (c .empty-start .result) (c .before .before .if1 .left) (c .before .if2 .left) (c .empty-start .ensures)
+returns-3 c = c .empty-start .ensures ∙ ap partForC (sym (no-attempt (c .before .before .before .before .before .args .reply-1 .now) (c .before .before .before .before .before .args .reply-2 .now) (c .before .before .before .before .before .args .attempt) (c .before .before .if1 .left) (c .before .if2 .left)))
 
 pub moor-reply-data-spec : {M : Type 1} → statement M
 moor-reply-data-spec =

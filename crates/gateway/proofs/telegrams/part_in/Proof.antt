@@ -5,17 +5,17 @@ use mathlib.Core.Bool.{Bool}
 use mathlib.Core.List.{List}
 use Prim.Native.Nat.{ℕ}
 use native.Mathlib.Omega.{arith}
-use lib.ListN.{length, getD}
-use Rattle.refusal.specs.Choice.{pick}
+use Rattle.lists.specs.Choice.{pick}
 use Rattle.exchange.proofs.Data.{held-within}
-use Rattle.answers.specs.declared.PartAnswer.{PartAnswer}
-use Rattle.gateway.specs.Lent.{emptyStart}
+use Rattle.boundary.specs.declared.MoorPart.{MoorPart}
+use Rattle.exchange.specs.Data.{behindLength, emptyStart}
+use Rattle.gateway.specs.Lent.{partForC}
 use borrow.Author.Needs.{needs}
 use Rattle.gateway.proofs.telegrams.part_in.Statement.{statement}
 use Rattle.gateway.proofs.telegrams.part_in.Tie as tie
 
-abbrev picked : ℕ → List ℕ → Bool → PartAnswer
-picked attempt buffer t = pick t (record { attempt = attempt; start = 1; length = getD buffer 0 0 }) emptyStart
+abbrev picked : ℕ → List ℕ → Bool → MoorPart
+picked attempt buffer t = partForC (pick t (behindLength attempt buffer) emptyStart)
 
 holds-data-requires : tie.Need-holds-data-requires
 holds-data-requires c κs = search needs

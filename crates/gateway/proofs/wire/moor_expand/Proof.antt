@@ -1,7 +1,7 @@
 -- `gateway::wire::moor_expand` meets its contract: what the writer gives, as numbers.
 -- Assumes nothing.
-use mathlib.Core.Path.{ap, _∙_}
-use Rattle.answers.specs.Answers.{writeAnswer}
+use Rattle.refusal.proofs.Writer.{wrote-shown}
+use Rattle.boundary.specs.ForC.{writtenForC}
 use borrow.Author.Needs.{needs}
 use Rattle.gateway.proofs.wire.moor_expand.Statement.{statement}
 use Rattle.gateway.proofs.wire.moor_expand.Tie as tie
@@ -9,14 +9,14 @@ use Rattle.gateway.proofs.wire.moor_expand.Tie as tie
 expand-requires : tie.Need-expand-requires
 expand-requires c κs = search needs
 
-write-answer-requires : tie.Need-write-answer-requires
-write-answer-requires c κs = search needs
+written-for-c-requires : tie.Need-written-for-c-requires
+written-for-c-requires c κs = search needs
 
 same-length : tie.Need-same-length
 same-length c = search needs
 
 returns : tie.Need-returns
-returns c = record { result = c .write-answer .ensures ∙ ap writeAnswer (c .before .before .before .expand .ensures .result); output = c .before .before .before .expand .ensures .output }
+returns c = wrote-shown writtenForC _ _ _ _ _ (c .written-for-c .ensures) (c .before .before .before .expand .ensures)
 
 pub moor-expand-spec : {M : Type 1} → statement M
-moor-expand-spec = tie.close (tie.spec expand-requires write-answer-requires same-length returns)
+moor-expand-spec = tie.close (tie.spec expand-requires written-for-c-requires same-length returns)

@@ -1,7 +1,7 @@
 -- `gateway::wire::moor_kind` meets its contract: the kind, as its number.
 -- Assumes nothing.
 use mathlib.Core.Path.{ap, _∙_}
-use Rattle.answers.specs.Answers.{kindNumber}
+use Rattle.ebus.specs.Address.{kindNumber}
 use borrow.Author.Needs.{needs}
 use Rattle.gateway.proofs.wire.moor_kind.Statement.{statement}
 use Rattle.gateway.proofs.wire.moor_kind.Tie as tie

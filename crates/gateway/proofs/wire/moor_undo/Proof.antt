@@ -1,7 +1,7 @@
 -- `gateway::wire::moor_undo` meets its contract: what the writer gives, as numbers.
 -- Assumes nothing.
-use mathlib.Core.Path.{ap, _∙_}
-use Rattle.answers.specs.Answers.{writeAnswer}
+use Rattle.refusal.proofs.Writer.{wrote-shown}
+use Rattle.boundary.specs.ForC.{writtenForC}
 use borrow.Author.Needs.{needs}
 use Rattle.gateway.proofs.wire.moor_undo.Statement.{statement}
 use Rattle.gateway.proofs.wire.moor_undo.Tie as tie
@@ -9,14 +9,14 @@ use Rattle.gateway.proofs.wire.moor_undo.Tie as tie
 undo-requires : tie.Need-undo-requires
 undo-requires c κs = search needs
 
-write-answer-requires : tie.Need-write-answer-requires
-write-answer-requires c κs = search needs
+written-for-c-requires : tie.Need-written-for-c-requires
+written-for-c-requires c κs = search needs
 
 same-length : tie.Need-same-length
 same-length c = search needs
 
 returns : tie.Need-returns
-returns c = record { result = c .write-answer .ensures ∙ ap writeAnswer (c .before .before .before .undo .ensures .result); output = c .before .before .before .undo .ensures .output }
+returns c = wrote-shown writtenForC _ _ _ _ _ (c .written-for-c .ensures) (c .before .before .before .undo .ensures)
 
 pub moor-undo-spec : {M : Type 1} → statement M
-moor-undo-spec = tie.close (tie.spec undo-requires write-answer-requires same-length returns)
+moor-undo-spec = tie.close (tie.spec undo-requires written-for-c-requires same-length returns)

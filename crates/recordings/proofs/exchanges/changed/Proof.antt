@@ -1,8 +1,7 @@
 -- `recordings::exchanges::changed` is safe and ends.
 -- Assumes nothing.
-use mathlib.Core.Path.{sym}
 use native.Mathlib.Omega.{arith}
-use lib.ListN.{length, length-take, length-set}
+use lib.ListN.{length-take, length-set}
 use borrow.Author.Needs.{needs}
 use Rattle.recordings.proofs.exchanges.changed.Statement.{statement}
 use Rattle.recordings.proofs.exchanges.changed.Tie as tie

@@ -1,7 +1,6 @@
 -- `recordings::scans::rising` is safe and ends.
 -- Assumes nothing.
 use Prim.Native.Nat.{_≤_, _-_}
-use native.Mathlib.Omega.{arith}
 use lib.ListN.{length}
 use borrow.Author.Needs.{needs}
 use Rattle.recordings.proofs.scans.rising.Statement.{statement}

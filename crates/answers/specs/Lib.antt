@@ -1,2 +1,0 @@
--- Each answer of the crates below as numbers.
-pub mod Answers

@@ -1,0 +1,29 @@
+-- `boundary::answer_for_c` meets its contract: each case of what the answer reader finds is its numbers.
+-- Assumes nothing.
+use mathlib.Core.Path.{sym, ap}
+use Rattle.boundary.specs.ForC.{answerForC}
+use borrow.Author.Needs.{needs}
+use Rattle.boundary.proofs.answer_for_c.Statement.{statement}
+use Rattle.boundary.proofs.answer_for_c.Tie as tie
+
+enum-known-x : tie.Need-enum-known-x
+enum-known-x c = search needs
+
+enum-told : tie.Need-enum-told
+enum-told c = search needs
+
+enum-known-x-2 : tie.Need-enum-known-x-2
+enum-known-x-2 c = search needs
+
+returns : tie.Need-returns
+returns c = ap answerForC (sym (c .before .x .given .1))
+
+returns-2 : tie.Need-returns-2
+returns-2 c = ap answerForC (sym (c .enum-told .given .1))
+
+returns-3 : tie.Need-returns-3
+returns-3 c = ap answerForC (sym (c .before .x2 .given .1))
+
+pub answer-for-c-spec : {M : Type 1} → statement M
+answer-for-c-spec =
+    tie.close (tie.spec enum-known-x enum-told enum-known-x-2 returns returns-2 returns-3)

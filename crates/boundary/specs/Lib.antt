@@ -1,0 +1,2 @@
+-- Each answer of the crates below as a struct that C takes.
+pub mod ForC

@@ -1,0 +1,106 @@
+-- The steps of a whole scan: what it comes to from here on, and how many devices it can still find.
+-- Assumes nothing.
+use mathlib.Core.Path.{_≡_, ap, _∙_}
+use mathlib.Core.Bool.{true}
+use mathlib.Core.List.{List, _∷_}
+use Prim.Native.Nat.{ℕ, suc, _+_, _<_}
+use native.Mathlib.Nat.{add-zero}
+use native.Mathlib.Omega.{arith}
+use lib.ListN.{length, getD, set}
+use lib.Seq.{sets}
+use borrow.Author.Tests.{ne-eqb}
+use Rattle.fastmodbus.specs.declared.Request.{Request}
+use Rattle.fastmodbus.specs.declared.Request.the-variants.{Continue}
+use Rattle.table.specs.Table.{Table, devices, valid}
+use Rattle.devices.specs.Request.{Turn, contest, contend, tableAfter, standing, respond}
+use Rattle.devices.specs.WholeScan.{onward, scanFrom, leftBy, serialsHeard, addressesHeard, closing}
+use Rattle.lists.specs.Tests.{howMany}
+use Rattle.devices.specs.declared.bus.Answer.{Answer}
+use Rattle.devices.specs.declared.bus.Answer.the-variants.{Silence, Found, End}
+use Rattle.devices.specs.declared.Scanned.{Scanned}
+use Rattle.devices.specs.declared.Scanned.the-variants.{Complete, Nobody, Unfinished}
+use Rattle.table.proofs.Meaning.{tested}
+use Rattle.devices.proofs.TurnCases.{by-contest, place-inside}
+use Rattle.devices.proofs.TurnKeeps.{standing-valid, standing-devices}
+use Rattle.lists.proofs.Counting.{isMarked, howMany-not-all, howMany-set}
+
+-- a turn whose answer is known
+abbrev pub answered : Turn → Answer → Turn
+answered turn answer = record { request = turn .request; met = turn .met; answer = answer; table = turn .table }
+
+-- the scan's first turn, by its answer, and what comes after it
+pub scan-step : (k : ℕ) (request : Request) (t : Table) (answer : Answer) → respond request t .answer ≡ answer
+    → scanFrom (suc k) request t ≡ answered (respond request t) answer ∷ onward answer (scanFrom k Continue (respond request t .table))
+unfolding scanFrom
+scan-step k request t answer e = ap (λ (a : Answer). answered (respond request t) a ∷ onward a (scanFrom k Continue (respond request t .table))) e
+
+-- what a scan comes to from here on, with so many devices heard before and the lists as they are
+pub record Finish : Type 0 where
+  pub scanned : Scanned
+  pub serials : List ℕ
+  pub addresses : List ℕ
+  pub table : Table
+
+abbrev pub finish : ℕ → List ℕ → List ℕ → Table → List Turn → Finish
+finish sent serials addresses t turns =
+    record {
+      scanned = closing turns (sent + length turns);
+      serials = sets serials sent (serialsHeard turns);
+      addresses = sets addresses sent (addressesHeard turns);
+      table = leftBy turns t;
+    }
+
+abbrev pub finished : Scanned → List ℕ → List ℕ → Table → Finish
+finished scanned serials addresses t = record { scanned = scanned; serials = serials; addresses = addresses; table = t }
+
+module _ (sent k : ℕ) (serials addresses : List ℕ) (request : Request) (t : Table) where
+  pub finish-found : (dominant serial address : ℕ) → respond request t .answer ≡ Found dominant serial address
+      → finish sent serials addresses t (scanFrom (suc k) request t)
+      ≡ finish (suc sent) (set serials sent serial) (set addresses sent address) (respond request t .table) (scanFrom k Continue (respond request t .table))
+  unfolding serialsHeard addressesHeard closing leftBy
+  finish-found dominant serial address e =
+      let later = scanFrom k Continue (respond request t .table) in
+      ap (finish sent serials addresses t) (scan-step k request t (Found dominant serial address) e)
+      ∙ ap (λ (n : ℕ). finished (closing later n) (sets (set serials sent serial) (suc sent) (serialsHeard later))
+      (sets (set addresses sent address) (suc sent) (addressesHeard later)) (leftBy later (respond request t .table)))
+      (let n : ℕ = length later in
+      let e : sent + suc n ≡ suc sent + n = omega arith in e)
+
+  pub finish-ended : (dominant : ℕ) → respond request t .answer ≡ End dominant
+      → finish sent serials addresses t (scanFrom (suc k) request t) ≡ finished (Complete (sent + 1)) serials addresses (respond request t .table)
+  unfolding serialsHeard addressesHeard closing leftBy
+  finish-ended dominant e = ap (finish sent serials addresses t) (scan-step k request t (End dominant) e)
+
+  pub finish-silent : respond request t .answer ≡ Silence
+      → finish sent serials addresses t (scanFrom (suc k) request t) ≡ finished (Nobody (sent + 1)) serials addresses (respond request t .table)
+  unfolding serialsHeard addressesHeard closing leftBy
+  finish-silent e = ap (finish sent serials addresses t) (scan-step k request t Silence e)
+
+pub finish-none : (sent : ℕ) (serials addresses : List ℕ) (request : Request) (t : Table)
+    → finish sent serials addresses t (scanFrom 0 request t) ≡ finished (Unfinished sent) serials addresses t
+unfolding scanFrom serialsHeard addressesHeard closing leftBy
+finish-none sent serials addresses request t = ap (λ (n : ℕ). finished (Unfinished n) serials addresses t) (add-zero sent)
+
+-- ---- how many marks there are
+
+-- a device found is one mark more, and there was one without
+contend-more : (t : Table) → valid t ≡ true → (dominant serial address : ℕ) → contend t ≡ Found dominant serial address
+    → (howMany isMarked (tableAfter (contend t) t .marks) ≡ howMany isMarked (t .marks) + 1) × (howMany isMarked (t .marks) < devices t)
+contend-more t v dominant serial address =
+    by-contest (λ (a : Answer). a ≡ Found dominant serial address → (howMany isMarked (tableAfter a t .marks) ≡ howMany isMarked (t .marks) + 1) × (howMany isMarked (t .marks) < devices t)) t
+    (λ none e. let z : _≡_ {A = ℕ} 0 1 = cc in absurd (let w : ⊥ = omega arith in w))
+    (λ s unscanned e.
+    let g = tested t v in
+    let here : contest t .place < length (t .marks) = omega (arith, g .marks-long, place-inside t v s) in
+    let not-one : getD (t .marks) (contest t .place) 0 ≡ 1 → ⊥ = λ m. omega arith in (
+      howMany-set (t .marks) (contest t .place) here unscanned,
+      omega (arith, g .marks-long, howMany-not-all isMarked (t .marks) (contest t .place) here (ne-eqb (getD (t .marks) (contest t .place) 0) 1 not-one)),
+    ))
+    (λ s scanned e. let z : _≡_ {A = ℕ} 0 1 = cc in absurd (let w : ⊥ = omega arith in w))
+
+pub respond-more : (request : Request) (t : Table) → valid t ≡ true → (dominant serial address : ℕ) → respond request t .answer ≡ Found dominant serial address
+    → (howMany isMarked (respond request t .table .marks) ≡ howMany isMarked (standing request t .marks) + 1) × (howMany isMarked (standing request t .marks) < devices t)
+unfolding respond
+respond-more request t v dominant serial address e =
+    let more = contend-more (standing request t) (standing-valid request t v) dominant serial address e in
+    (more .0, omega (arith, more .1, standing-devices request t))

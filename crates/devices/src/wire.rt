@@ -1,0 +1,66 @@
+// The devices' answer as the bytes that it puts on the bus.
+use crate::Response;
+use crate::bus::Answer;
+use fastmodbus::END_LENGTH;
+use fastmodbus::FILL;
+use fastmodbus::FOUND_LENGTH;
+ghost use mathlib.Core.Path.{_≡_};
+ghost use mathlib.Core.List.{_++_};
+ghost use Prim.Native.Nat.{_≤_, _<_};
+ghost use lib.ListN.{length, replicate, drop};
+ghost use Rattle.lists.specs.Starting.{starting};
+ghost use Rattle.fastmodbus.specs.Reading.{fill};
+ghost use Rattle.devices.specs.Calls.{answerBytes, responseTo, answerRoom};
+ghost use Rattle.devices.specs.Request.{windows};
+ghost use Rattle.table.specs.Table.{serialLimit};
+ghost use Rattle.devices.specs.declared.bus.Answer.the-variants.{Found, End};
+ghost use Rattle.devices.specs.Inner.{Writable};
+
+// Puts so many FF at the start of the answer.
+fn put_fill(count: usize, answer: &mut [u8])
+    requires { ⌜ count ≤ length (now answer) ⌝ }
+    ensures { λ _. ⌜ now (answer .exit) ≡ replicate count fill ++ drop count (now (answer .entry)) ⌝ }
+{
+    let mut i = 0;
+    while i < count {
+        answer[i] = FILL;
+        i += 1;
+    }
+}
+
+// One FF for each dominant window, then the frame of a device found. There is room for both, so the
+// frame is written whole.
+fn write_found(dominant: usize, serial: u32, address: u8, answer: &mut [u8]) -> usize
+    requires { ⌜ (dominant ≤ windows) × (serial < serialLimit) × (answerRoom ≤ length (now answer)) ⌝ }
+    ensures { λ r. ⌜ (r ≡ length (answerBytes (Found dominant serial address))) × (now (answer .exit) ≡ starting (answerBytes (Found dominant serial address)) (now (answer .entry))) ⌝ }
+{
+    put_fill(dominant, answer);
+    fastmodbus::write_found(serial, address, &mut answer[dominant..]);
+    dominant + FOUND_LENGTH
+}
+
+// The same with the frame that ends a scan.
+fn write_end(dominant: usize, answer: &mut [u8]) -> usize
+    requires { ⌜ (dominant ≤ windows) × (answerRoom ≤ length (now answer)) ⌝ }
+    ensures { λ r. ⌜ (r ≡ length (answerBytes (End dominant))) × (now (answer .exit) ≡ starting (answerBytes (End dominant)) (now (answer .entry))) ⌝ }
+{
+    put_fill(dominant, answer);
+    fastmodbus::write_end(&mut answer[dominant..]);
+    dominant + END_LENGTH
+}
+
+// Writes the answer.
+pub(crate) fn write(heard: Answer, answer: &mut [u8]) -> Response
+    requires { ⌜ Writable heard × (answerRoom ≤ length (now answer)) ⌝ }
+    ensures { λ r. ⌜ (r ≡ responseTo heard) × (now (answer .exit) ≡ starting (answerBytes heard) (now (answer .entry))) ⌝ }
+{
+    match heard {
+        Answer::Silence => Response::Silent,
+        Answer::Found {
+            dominant,
+            serial,
+            address,
+        } => Response::Answered(write_found(dominant, serial, address, answer)),
+        Answer::End { dominant } => Response::Answered(write_end(dominant, answer)),
+    }
+}

@@ -1,0 +1,45 @@
+// The eBUS check byte, one byte a step from a table.
+//
+// The loop's own function takes the table once: a constant array has no storage of its own, and one
+// that is indexed inside a small function is built on the stack again at each call.
+use crate::escape::ESC;
+use crate::escape::SYN;
+use crate::table::EBUS_TABLE;
+ghost use mathlib.Core.Path.{_≡_};
+ghost use Rattle.ebus.specs.BitByBit.{EbusTable};
+ghost use Rattle.ebus.specs.Check.{ebusCheck};
+
+// The table: at every entry, eight steps of the bit-by-bit rule.
+fn ebus_table() -> [u8; 256]
+    ensures { λ r. ⌜ EbusTable r ⌝ }
+{
+    EBUS_TABLE
+}
+
+// A bit above the register's eight. With it the running value is no byte that would have to be
+// widened before each look at the table.
+const ABOVE: usize = 0x100;
+
+// The eBUS check byte of logical bytes: A9 counts as A9 00 and AA as A9 01.
+pub fn ebus_check(logical: &[u8]) -> u8
+    ensures { λ r. ⌜ r ≡ ebusCheck (now (logical .entry)) ⌝ }
+{
+    let table = ebus_table();
+    let mut running: usize = ABOVE;
+    let mut i = 0;
+    while i < logical.len() {
+        let byte = logical[i];
+        let at = running - ABOVE;
+        i += 1;
+        match byte {
+            ESC | SYN => {
+                let second = (table[at] ^ ESC) as usize;
+                running = (table[second] as usize) ^ (ABOVE + (byte - ESC) as usize);
+            }
+            _ => {
+                running = (table[at] as usize) ^ (ABOVE + byte as usize);
+            }
+        }
+    }
+    (running - ABOVE) as u8
+}

@@ -1,0 +1,67 @@
+// The short names of the numbers of refusals.
+use crate::line;
+use crate::say;
+use crate::word;
+
+// A line for each number, as in docs/numbers.txt.
+pub(crate) fn name(page: &mut [u8], used: usize, number: u8) -> usize {
+    let mut digits = [0u8; 20];
+    let k = io::decimal(number as u64, &mut digits);
+    numbered(
+        b"1 output too short
+2 table not valid
+3 run ended
+4 wrong escape
+5 SYN too early
+6 source no initiator
+7 destination A9 or AA
+8 LEN over 16
+9 wrong check byte
+10 command NACKed twice
+11 reply NACKed twice
+12 bus error
+13 wrong length
+14 wrong mark
+15 subcommand or letter not taken
+16 wrong check
+17 serial too large
+",
+        &digits[..k],
+        page,
+        used,
+    )
+}
+
+// Says the words of the line that begins with this number.
+fn numbered(lines: &[u8], number: &[u8], page: &mut [u8], used: usize) -> usize {
+    let mut i = 0;
+    while i < lines.len() {
+        if begins(lines, i, number) {
+            return say::text(page, used, behind(lines, i));
+        }
+        i += 1;
+    }
+    say::text(page, used, b"no name")
+}
+
+// Whether a line begins here, and this is its first word.
+fn begins(lines: &[u8], i: usize, first: &[u8]) -> bool {
+    let w = word::next(lines, i);
+    if !word::same(word::part(lines, i, w.to), first) {
+        return false;
+    }
+    if i == 0 {
+        return true;
+    }
+    if lines.len() < i {
+        return false;
+    }
+    lines[i - 1] == b'\n'
+}
+
+// What stands behind the first word of the line that begins here.
+fn behind(lines: &[u8], i: usize) -> &[u8] {
+    let first = word::next(lines, i);
+    let from = word::next(lines, first.to).from;
+    word::part(lines, from, line::end_of(lines, from, lines.len()))
+}

@@ -1,0 +1,113 @@
+// Numbers of a line.
+use crate::fault::Fault;
+use crate::fault::What;
+use crate::fault::fault_at;
+use crate::word;
+ghost use Prim.Native.Nat.{_≤_};
+ghost use lib.ListN.{length};
+
+// A number and where the rest of the line begins, or what was wrong.
+pub(crate) enum NumberRead {
+    Number(u64, usize),
+    Wrong(Fault),
+}
+
+// The value of a digit, or 16 where it is none.
+pub(crate) fn digit(b: u8) -> u8
+    ensures { λ r. ⌜ r ≤ 16 ⌝ }
+{
+    match b {
+        b'0'..=b'9' => b - 48,
+        b'A'..=b'F' => b - 55,
+        b'a'..=b'f' => b - 87,
+        _ => 16,
+    }
+}
+
+fn no_digit(base: u64) -> What {
+    if base == 10 {
+        What::NotNumber
+    } else {
+        What::NotHex
+    }
+}
+
+// The number whose digits to this base stand from `from` to `to`.
+fn number_in(line: &[u8], from: usize, to: usize, base: u64) -> NumberRead
+    requires { ⌜ (to ≤ length (now line)) × (1 ≤ base) × (base ≤ 16) ⌝ }
+{
+    let mut value: u64 = 0;
+    let mut i = from;
+    while i < to {
+        let d = digit(line[i]) as u64;
+        if base <= d {
+            return NumberRead::Wrong(fault_at(no_digit(base), i));
+        }
+        if (u64::MAX - d) / base < value {
+            return NumberRead::Wrong(fault_at(What::TooLarge, from));
+        }
+        value = value * base + d;
+        i += 1;
+    }
+    NumberRead::Number(value, to)
+}
+
+// The number that the word from `from` to `to` is: decimal, or hexadecimal with 0x.
+fn number(line: &[u8], from: usize, to: usize) -> NumberRead
+    requires { ⌜ (from ≤ to) × (to ≤ length (now line)) ⌝ }
+{
+    if from == to {
+        return NumberRead::Wrong(fault_at(What::Missing, from));
+    }
+    if to - from < 3 {
+        return number_in(line, from, to, 10);
+    }
+    if line[from] != b'0' {
+        return number_in(line, from, to, 10);
+    }
+    if line[from + 1] != b'x' {
+        return number_in(line, from, to, 10);
+    }
+    number_in(line, from + 2, to, 16)
+}
+
+// The number that is the last word of the line, at most `most`.
+pub(crate) fn last_number(line: &[u8], at: usize, most: u64) -> NumberRead {
+    let w = word::next(line, at);
+    let from = w.from;
+    let to = w.to;
+    let behind = word::next(line, to);
+    if behind.from < behind.to {
+        return NumberRead::Wrong(fault_at(What::Extra, behind.from));
+    }
+    let read = number(line, from, to);
+    let NumberRead::Number(n, _) = read else {
+        return read;
+    };
+    if most < n {
+        return NumberRead::Wrong(fault_at(What::TooLarge, from));
+    }
+    read
+}
+
+// The hexadecimal number that is the next word from `at` on, of one digit to `most`.
+pub(crate) fn digits(line: &[u8], at: usize, most: usize) -> NumberRead {
+    let w = word::next(line, at);
+    let from = w.from;
+    let to = w.to;
+    if from == to {
+        return NumberRead::Wrong(fault_at(What::Missing, from));
+    }
+    if most < to - from {
+        return NumberRead::Wrong(fault_at(What::TooManyDigits, from));
+    }
+    number_in(line, from, to, 16)
+}
+
+// What was wrong with a number.
+pub(crate) fn fault_of(read: NumberRead) -> Fault {
+    match read {
+        NumberRead::Number(_, at) => fault_at(What::NotNumber, at),
+        NumberRead::Wrong(why) => why,
+    }
+}

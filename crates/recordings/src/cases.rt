@@ -1,0 +1,51 @@
+// Groups of cases. A case is a line of text, and its line says what it must give.
+use crate::answers;
+use crate::checks;
+use crate::escapes;
+use crate::exchanges;
+use crate::tally::Tally;
+use crate::tally::none;
+
+// What the lines of a group are.
+pub(crate) enum Lines {
+    EbusChecks,
+    ModbusChecks,
+    Expanding,
+    Undoing,
+    Exchanges,
+    Answers,
+}
+
+// Whether a line's case gives what it must, and where the next line begins.
+pub(crate) struct Checked {
+    pub(crate) right: bool,
+    pub(crate) next: usize,
+}
+
+fn case(of: Lines, text: &[u8], at: usize) -> Checked {
+    match of {
+        Lines::EbusChecks => checks::ebus_case(text, at),
+        Lines::ModbusChecks => checks::modbus_case(text, at),
+        Lines::Expanding => escapes::case(false, text, at),
+        Lines::Undoing => escapes::case(true, text, at),
+        Lines::Exchanges => exchanges::case(text, at),
+        Lines::Answers => answers::case(text, at),
+    }
+}
+
+// Every line's case. There are no more lines than bytes.
+pub(crate) fn cases(of: Lines, text: &[u8]) -> Tally {
+    let mut t = none();
+    let mut at = 0;
+    let mut i = 0;
+    while i < text.len() {
+        if text.len() <= at {
+            return t;
+        }
+        let c = case(of, text, at);
+        t = t.with(c.right);
+        at = c.next;
+        i += 1;
+    }
+    t
+}

@@ -1,0 +1,285 @@
+-- A longer run: an answer other than number 3 on a run is the answer on every longer run, and a run that is refused with 3 has no
+-- shorter prefix with another answer. A judge that is fed byte by byte rests on this.
+-- Assumes nothing.
+use mathlib.Core.Path.{_≡_, refl, sym, ap, _∙_, subst}
+use mathlib.Core.Bool.{Bool, true, false}
+use mathlib.Core.List.{List, [], _∷_, _++_}
+use mathlib.Core.Logic.{_⊎_, inl, inr, ⊎-elim}
+use Prim.Native.Nat.{ℕ, zero, suc, _+_}
+use native.Mathlib.Omega.{arith}
+use lib.Dec.{eqb, leb}
+use lib.ListN.{length, getD}
+use Rattle.lists.specs.Choice.{pick}
+use Rattle.refusal.specs.Number.{outputShort, runEnded, synEarly, busError, at-place}
+use Rattle.lists.proofs.Cases.{pick-cases}
+use Rattle.ebus.specs.Escape.{syn}
+use Rattle.ebus.specs.declared.address.ExchangeKind.{ExchangeKind}
+use Rattle.ebus.specs.declared.address.ExchangeKind.the-variants.{Broadcast, InitiatorInitiator, InitiatorTarget}
+use Rattle.ebus.specs.declared.escape.Logical.{Logical}
+use Rattle.ebus.specs.declared.escape.Logical.the-variants.{Byte, Refused}
+use Rattle.ebus.specs.Logical.{runOver, logicalAt}
+use Rattle.ebus.specs.Address.{initiator, reserved, kindOf}
+use Rattle.exchange.specs.Telegram.{headOf, lengthPlace, destinationOf, longest, checkRight, Field, SRC, DST, LEN, unjudged, fieldAt, faultOf, Telegram, read, unread, onByte, collected, onHead, telegramAt}
+use Rattle.ebus.proofs.LongerRun.{Stays, OtherRefusal, OtherByte, stays-same, stays-on, stays-pick, stays-byte, logical-stays}
+use Rattle.exchange.specs.Exchange.{ack, nack, Acknowledge, positive, negative, invalid, acknowledgeAt, Attempt, taken, nacked, failed, settled, onAcknowledge, unanswered, onTelegram, attemptAt, Tries, once, twice, neither, nackedTwice, onSecond, onFirst, triesAt, End, ended, open-still, synAt, Outcome, accepted, rejected, onEnd, onReply, onKind, onCommand, exchangeAt, exchange, rooms, judged}
+
+-- ---- a telegram
+
+abbrev OtherTelegram : Telegram → Type 0
+OtherTelegram (read telegram last next) = Unit {0}
+OtherTelegram (unread why) = OtherRefusal why
+
+-- what is wrong with a field is 6, 7 or 8
+fault-other : (field : Field) (b : ℕ) → faultOf field b ≡ runEnded → ⊥
+unfolding faultOf
+fault-other SRC b = pick-cases (λ k. k ≡ runEnded → ⊥) (initiator b) _ _ (λ _ e. omega arith) (λ _ e. omega arith)
+fault-other DST b = pick-cases (λ k. k ≡ runEnded → ⊥) (reserved b) _ _ (λ _ e. omega arith) (λ _ e. omega arith)
+fault-other LEN b = pick-cases (λ k. k ≡ runEnded → ⊥) (leb b longest) _ _ (λ _ e. omega arith) (λ _ e. omega arith)
+fault-other unjudged b = λ e. omega arith
+
+by-byte : (run : List ℕ) (field : Field) (at : ℕ) (rest rest′ : ℕ → ℕ → Telegram)
+    → ((b next : ℕ) → Stays OtherTelegram (unread (runOver run)) (rest b next) (rest′ b next))
+    → (l : Logical) → OtherByte l → Stays OtherTelegram (unread (runOver run)) (onByte field at l rest) (onByte field at l rest′)
+by-byte run field at rest rest′ each (Byte b next) h =
+    let wrong = unread (at-place (faultOf field b) at) in
+    stays-pick OtherTelegram (unread (runOver run)) (rest b next) (rest′ b next) wrong wrong (eqb (faultOf field b) 0) (each b next)
+    (stays-same OtherTelegram (unread (runOver run)) wrong (fault-other field b))
+by-byte run field at rest rest′ each (Refused why) h = stays-same OtherTelegram (unread (runOver run)) (unread why) h
+
+module _ (run more : List ℕ) where
+  collected-stays : (command : Bool) (n : ℕ) (soFar : List ℕ) (last at : ℕ)
+      → Stays OtherTelegram (unread (runOver run)) (collected command run n soFar last at) (collected command (run ++ more) n soFar last at)
+  unfolding collected
+  collected-stays command zero soFar last at = stays-same OtherTelegram (unread (runOver run)) (read soFar last at) tt
+  collected-stays command (suc n) soFar last at =
+      let rest : List ℕ → ℕ → ℕ → Telegram = λ r b next. collected command r n (soFar ++ b ∷ []) at next in
+      stays-on OtherByte OtherTelegram (λ l. onByte (fieldAt command (length soFar)) at l (rest run)) (λ l. onByte (fieldAt command (length soFar)) at l (rest (run ++ more)))
+      (Refused (runOver run)) (logicalAt run at) (logicalAt (run ++ more) at)
+      (by-byte run (fieldAt command (length soFar)) at (rest run) (rest (run ++ more)) (λ b next. collected-stays command n (soFar ++ b ∷ []) at next))
+      (logical-stays run more at)
+
+  by-head : (command : Bool) (t : Telegram) → OtherTelegram t → Stays OtherTelegram (unread (runOver run)) (onHead command run t) (onHead command (run ++ more) t)
+  by-head command (read soFar last next) h = collected-stays command (getD soFar (lengthPlace command) 0 + 1) soFar last next
+  by-head command (unread why) h = stays-same OtherTelegram (unread (runOver run)) (unread why) h
+
+  telegram-stays : (command : Bool) (at : ℕ) → Stays OtherTelegram (unread (runOver run)) (telegramAt command run at) (telegramAt command (run ++ more) at)
+  unfolding telegramAt
+  telegram-stays command at =
+      stays-on OtherTelegram OtherTelegram (onHead command run) (onHead command (run ++ more)) (unread (runOver run))
+      (collected command run (headOf command) [] at at) (collected command (run ++ more) (headOf command) [] at at) (by-head command) (collected-stays command (headOf command) [] at at)
+
+-- ---- no refusal with number 3, for each kind of answer
+
+abbrev OtherAcknowledge : Acknowledge → Type 0
+OtherAcknowledge (positive next) = Unit {0}
+OtherAcknowledge (negative place) = Unit {0}
+OtherAcknowledge (invalid why) = OtherRefusal why
+
+abbrev OtherAttempt : Attempt → Type 0
+OtherAttempt (taken telegram next) = Unit {0}
+OtherAttempt (nacked telegram place) = Unit {0}
+OtherAttempt (failed why) = OtherRefusal why
+
+abbrev OtherTries : Tries → Type 0
+OtherTries (once telegram next) = Unit {0}
+OtherTries (twice first second next) = Unit {0}
+OtherTries (neither why) = OtherRefusal why
+
+abbrev OtherEnd : End → Type 0
+OtherEnd (ended next) = Unit {0}
+OtherEnd (open-still why) = OtherRefusal why
+
+abbrev pub OtherOutcome : Outcome → Type 0
+OtherOutcome (accepted kind commands replies next command first second) = Unit {0}
+OtherOutcome (rejected why) = OtherRefusal why
+
+-- the check byte's refusal is 9, and two NACKs give 10 or 11
+settled-other : (telegram : List ℕ) (checkPlace next : ℕ) → OtherAttempt (settled telegram checkPlace next)
+unfolding settled
+settled-other telegram checkPlace next = pick-cases OtherAttempt (checkRight telegram) _ _ (λ _. tt) (λ _ e. omega arith)
+
+nacked-other : (command : Bool) (place : ℕ) → OtherRefusal (at-place (nackedTwice command) place)
+nacked-other true place e = omega arith
+nacked-other false place e = omega arith
+
+-- the steps that do not look at the run
+
+by-acknowledge : (telegram : List ℕ) (checkPlace : ℕ) (a : Acknowledge) → OtherAcknowledge a → OtherAttempt (onAcknowledge telegram checkPlace a)
+by-acknowledge telegram checkPlace (positive next) h = settled-other telegram checkPlace next
+by-acknowledge telegram checkPlace (negative place) h = tt
+by-acknowledge telegram checkPlace (invalid why) h = h
+
+by-second : (command : Bool) (first : List ℕ) (a : Attempt) → OtherAttempt a → OtherTries (onSecond command first a)
+by-second command first (taken telegram next) h = tt
+by-second command first (nacked telegram place) h = nacked-other command place
+by-second command first (failed why) h = h
+
+by-end : (kind : ExchangeKind) (commands replies : ℕ) (command first second : List ℕ) (x : End)
+    → OtherEnd x → OtherOutcome (onEnd kind commands replies command first second x)
+by-end kind commands replies command first second (ended next) h = tt
+by-end kind commands replies command first second (open-still why) h = h
+
+module _ (run more : List ℕ) where
+  -- ---- an acknowledge byte, and SYN
+
+  acknowledge-stays : (at : ℕ) → Stays OtherAcknowledge (invalid (runOver run)) (acknowledgeAt run at) (acknowledgeAt (run ++ more) at)
+  unfolding acknowledgeAt
+  acknowledge-stays at =
+      let f : ℕ → Acknowledge =
+      λ b. pick (eqb b ack) (positive (at + 1)) (pick (eqb b nack) (negative at) (pick (eqb b syn) (invalid (at-place synEarly at)) (invalid (at-place busError at)))) in
+      stays-byte OtherAcknowledge run more at (invalid (runOver run)) (invalid (runOver (run ++ more))) f f
+      (λ b.
+      stays-same OtherAcknowledge (invalid (runOver run)) (f b)
+      (pick-cases OtherAcknowledge (eqb b ack) _ _ (λ _. tt)
+      (λ _. pick-cases OtherAcknowledge (eqb b nack) _ _ (λ _. tt)
+      (λ _. pick-cases OtherAcknowledge (eqb b syn) _ _ (λ _ e. omega arith) (λ _ e. omega arith)))))
+
+  syn-stays : (at : ℕ) → Stays OtherEnd (open-still (runOver run)) (synAt run at) (synAt (run ++ more) at)
+  unfolding synAt
+  syn-stays at =
+      let f : ℕ → End = λ b. pick (eqb b syn) (ended (at + 1)) (open-still (at-place busError at)) in
+      stays-byte OtherEnd run more at (open-still (runOver run)) (open-still (runOver (run ++ more))) f f
+      (λ b. stays-same OtherEnd (open-still (runOver run)) (f b) (pick-cases OtherEnd (eqb b syn) _ _ (λ _. tt) (λ _ e. omega arith)))
+
+  -- ---- an attempt
+
+  by-telegram : (command : Bool) (t : Telegram) → OtherTelegram t
+      → Stays OtherAttempt (failed (runOver run)) (onTelegram command run t) (onTelegram command (run ++ more) t)
+  by-telegram command (read telegram checkPlace next) h =
+      let at-once = settled telegram checkPlace next in
+      stays-pick OtherAttempt (failed (runOver run)) at-once at-once _ _ (unanswered command telegram)
+      (stays-same OtherAttempt (failed (runOver run)) at-once (settled-other telegram checkPlace next))
+      (stays-on OtherAcknowledge OtherAttempt (onAcknowledge telegram checkPlace) (onAcknowledge telegram checkPlace) (invalid (runOver run)) (acknowledgeAt run next) (acknowledgeAt (run ++ more) next)
+      (λ a o. stays-same OtherAttempt (failed (runOver run)) (onAcknowledge telegram checkPlace a) (by-acknowledge telegram checkPlace a o)) (acknowledge-stays next))
+  by-telegram command (unread why) h = stays-same OtherAttempt (failed (runOver run)) (failed why) h
+
+  attempt-stays : (command : Bool) (at : ℕ) → Stays OtherAttempt (failed (runOver run)) (attemptAt command run at) (attemptAt command (run ++ more) at)
+  unfolding attemptAt
+  attempt-stays command at =
+      stays-on OtherTelegram OtherAttempt (onTelegram command run) (onTelegram command (run ++ more)) (unread (runOver run))
+      (telegramAt command run at) (telegramAt command (run ++ more) at) (by-telegram command) (telegram-stays run more command at)
+
+  -- ---- one attempt or two
+
+  by-first : (command : Bool) (a : Attempt) → OtherAttempt a → Stays OtherTries (neither (runOver run)) (onFirst command run a) (onFirst command (run ++ more) a)
+  by-first command (taken telegram next) h = stays-same OtherTries (neither (runOver run)) (once telegram next) tt
+  by-first command (nacked telegram place) h =
+      stays-on OtherAttempt OtherTries (onSecond command telegram) (onSecond command telegram) (failed (runOver run))
+      (attemptAt command run (place + 1)) (attemptAt command (run ++ more) (place + 1))
+      (λ a o. stays-same OtherTries (neither (runOver run)) (onSecond command telegram a) (by-second command telegram a o)) (attempt-stays command (place + 1))
+  by-first command (failed why) h = stays-same OtherTries (neither (runOver run)) (neither why) h
+
+  tries-stay : (command : Bool) (at : ℕ) → Stays OtherTries (neither (runOver run)) (triesAt command run at) (triesAt command (run ++ more) at)
+  unfolding triesAt
+  tries-stay command at =
+      stays-on OtherAttempt OtherTries (onFirst command run) (onFirst command (run ++ more)) (failed (runOver run))
+      (attemptAt command run at) (attemptAt command (run ++ more) at) (by-first command) (attempt-stays command at)
+
+  -- ---- the exchange
+
+  end-stays : (kind : ExchangeKind) (commands replies : ℕ) (command first second : List ℕ) (at : ℕ)
+      → Stays OtherOutcome (rejected (runOver run)) (onEnd kind commands replies command first second (synAt run at))
+      (onEnd kind commands replies command first second (synAt (run ++ more) at))
+  end-stays kind commands replies command first second at =
+      let f = onEnd kind commands replies command first second in
+      stays-on OtherEnd OtherOutcome f f (open-still (runOver run)) (synAt run at) (synAt (run ++ more) at)
+      (λ x o. stays-same OtherOutcome (rejected (runOver run)) (f x) (by-end kind commands replies command first second x o)) (syn-stays at)
+
+  by-reply : (commands : ℕ) (command : List ℕ) (t : Tries) → OtherTries t
+      → Stays OtherOutcome (rejected (runOver run)) (onReply commands command run t) (onReply commands command (run ++ more) t)
+  by-reply commands command (once reply next) h = end-stays InitiatorTarget commands 1 command reply [] next
+  by-reply commands command (twice first second next) h = end-stays InitiatorTarget commands 2 command first second next
+  by-reply commands command (neither why) h = stays-same OtherOutcome (rejected (runOver run)) (rejected why) h
+
+  by-kind : (commands : ℕ) (command : List ℕ) (at : ℕ) (kind : ExchangeKind)
+      → Stays OtherOutcome (rejected (runOver run)) (onKind commands command run at kind) (onKind commands command (run ++ more) at kind)
+  by-kind commands command at Broadcast = end-stays Broadcast commands 0 command [] [] at
+  by-kind commands command at InitiatorInitiator = end-stays InitiatorInitiator commands 0 command [] [] at
+  by-kind commands command at InitiatorTarget =
+      stays-on OtherTries OtherOutcome (onReply commands command run) (onReply commands command (run ++ more)) (neither (runOver run))
+      (triesAt false run at) (triesAt false (run ++ more) at) (by-reply commands command) (tries-stay false at)
+
+  by-command : (t : Tries) → OtherTries t → Stays OtherOutcome (rejected (runOver run)) (onCommand run t) (onCommand (run ++ more) t)
+  by-command (once command next) h = by-kind 1 command next (kindOf (destinationOf command))
+  by-command (twice first command next) h = by-kind 2 command next (kindOf (destinationOf command))
+  by-command (neither why) h = stays-same OtherOutcome (rejected (runOver run)) (rejected why) h
+
+  pub exchange-stays : (at : ℕ) → Stays OtherOutcome (rejected (runOver run)) (exchangeAt run at) (exchangeAt (run ++ more) at)
+  unfolding exchangeAt
+  exchange-stays at =
+      stays-on OtherTries OtherOutcome (onCommand run) (onCommand (run ++ more)) (neither (runOver run))
+      (triesAt true run at) (triesAt true (run ++ more) at) by-command (tries-stay true at)
+
+-- "a lent output is shorter than stated" is number 1, on every run
+pub judged-stays : (run more : List ℕ) (command first second : ℕ)
+    → Stays OtherOutcome (rejected (runOver run)) (judged run command first second) (judged (run ++ more) command first second)
+unfolding judged
+judged-stays run more command first second =
+    let short = rejected (at-place outputShort 0) in
+    stays-pick OtherOutcome (rejected (runOver run)) (exchange run) (exchange (run ++ more)) short short (rooms command first second) (exchange-stays run more 0)
+    (stays-same OtherOutcome (rejected (runOver run)) short (λ e. omega arith))
+
+-- ---- what it says, of anything that stays
+
+abbrev placeOf : Outcome → ℕ
+placeOf (accepted kind commands replies next command first second) = 0
+placeOf (rejected why) = why .place
+
+module _ (answer : List ℕ → Outcome) (stays : (run more : List ℕ) → Stays OtherOutcome (rejected (runOver run)) (answer run) (answer (run ++ more))) where
+  either : (run more : List ℕ) → (answer run ≡ rejected (runOver run)) ⊎ (answer (run ++ more) ≡ answer run)
+  either run more = ⊎-elim (λ h. inl h) (λ h. inr (h .0)) (stays run more)
+
+  same-later : (run more : List ℕ) → ((place : ℕ) → answer run ≡ rejected (at-place runEnded place) → ⊥) → answer (run ++ more) ≡ answer run
+  same-later run more other = ⊎-elim (λ h. absurd (other (length run) h)) (λ h. h) (either run more)
+
+  at-end : (run : List ℕ) (place : ℕ) → answer run ≡ rejected (at-place runEnded place) → place ≡ length run
+  at-end run place e = ⊎-elim (λ h. ap placeOf (sym e ∙ h)) (λ h. absurd (subst OtherOutcome e (h .1) refl)) (stays run [])
+
+  same-before : (run more : List ℕ) (place : ℕ) → answer (run ++ more) ≡ rejected (at-place runEnded place)
+      → answer run ≡ rejected (runOver run)
+  same-before run more place e =
+      ⊎-elim (λ h. h)
+      (λ h.
+      let now : answer run ≡ rejected (at-place runEnded place) = sym h ∙ e in
+      now ∙ ap (λ (n : ℕ). rejected (at-place runEnded n)) (at-end run place now))
+      (either run more)
+
+-- ---- of an exchange, from any position
+
+-- a run is refused by its own end, or its answer is that of every longer run
+pub longer : (run more : List ℕ) (at : ℕ)
+    → (exchangeAt run at ≡ rejected (runOver run)) ⊎ (exchangeAt (run ++ more) at ≡ exchangeAt run at)
+longer run more at = either (λ r. exchangeAt r at) (λ r m. exchange-stays r m at) run more
+
+-- "An answer other than number 3 on a run is the answer on every longer run"
+pub answer-stays : (run more : List ℕ) (at : ℕ) → ((place : ℕ) → exchangeAt run at ≡ rejected (at-place runEnded place) → ⊥)
+    → exchangeAt (run ++ more) at ≡ exchangeAt run at
+answer-stays run more at other = same-later (λ r. exchangeAt r at) (λ r m. exchange-stays r m at) run more other
+
+-- "a run that is refused with 3 has no shorter prefix with another answer"
+pub three-before : (run more : List ℕ) (at place : ℕ) → exchangeAt (run ++ more) at ≡ rejected (at-place runEnded place)
+    → exchangeAt run at ≡ rejected (runOver run)
+three-before run more at place e = same-before (λ r. exchangeAt r at) (λ r m. exchange-stays r m at) run more place e
+
+-- a refusal with number 3 is placed at the run's length
+pub three-place : (run : List ℕ) (at place : ℕ) → exchangeAt run at ≡ rejected (at-place runEnded place) → place ≡ length run
+three-place run at place e = at-end (λ r. exchangeAt r at) (λ r m. exchange-stays r m at) run place e
+
+-- ---- of the judge, with any rooms
+
+module _ (command first second : ℕ) where
+  pub judged-longer : (run more : List ℕ)
+      → (judged run command first second ≡ rejected (runOver run))
+      ⊎ (judged (run ++ more) command first second ≡ judged run command first second)
+  judged-longer run more = either (λ r. judged r command first second) (λ r m. judged-stays r m command first second) run more
+
+  pub judged-answer-stays : (run more : List ℕ) → ((place : ℕ) → judged run command first second ≡ rejected (at-place runEnded place) → ⊥)
+      → judged (run ++ more) command first second ≡ judged run command first second
+  judged-answer-stays run more other = same-later (λ r. judged r command first second) (λ r m. judged-stays r m command first second) run more other
+
+  pub judged-three-before : (run more : List ℕ) (place : ℕ) → judged (run ++ more) command first second ≡ rejected (at-place runEnded place)
+      → judged run command first second ≡ rejected (runOver run)
+  judged-three-before run more place e = same-before (λ r. judged r command first second) (λ r m. judged-stays r m command first second) run more place e
+
+  pub judged-three-place : (run : List ℕ) (place : ℕ) → judged run command first second ≡ rejected (at-place runEnded place) → place ≡ length run
+  judged-three-place run place e = at-end (λ r. judged r command first second) (λ r m. judged-stays r m command first second) run place e

@@ -1,0 +1,125 @@
+-- The lengths of telegrams on the wire: the proof of specs/Lengths.antt.
+-- Assumes nothing.
+use mathlib.Core.Path.{_≡_, refl, sym, ap, subst}
+use mathlib.Core.Bool.{Bool, true, false}
+use mathlib.Core.List.{List, [], _∷_, _++_}
+use Prim.Native.Nat.{ℕ, suc, _+_, _≤_}
+use native.Mathlib.Omega.{arith}
+use lib.ListN.{length, length-append}
+use Rattle.refusal.specs.Output.{bytes}
+use Rattle.lists.proofs.Cases.{true-not-false}
+use Rattle.crc.specs.Register.{step, enter, bits}
+use Rattle.ebus.specs.Check.{ebusBytes, ebusCheck}
+use Rattle.ebus.specs.Escape.{escaped, expanded}
+use Rattle.ebus.proofs.Escaped.{escaped-plain}
+use Rattle.ebus.specs.Address.{initiatorNibble, initiator, reserved}
+use Rattle.exchange.specs.Telegram.{longest, closed, read, telegramAt, commandOutput, replyOutput}
+use Rattle.ebus.proofs.EscapeRoundTrip.{expanded-at-most}
+use Rattle.exchange.proofs.TelegramOnWire.{stood}
+use Rattle.rulebook.specs.Rules.{Form}
+use Rattle.rulebook.specs.Lengths.{longestOnWire, Lengths}
+use Rattle.rulebook.specs.ReadBack.{commandBytes, replyBytes}
+use Rattle.rulebook.proofs.WholeForms.{form-of, one-longer}
+use Rattle.rulebook.proofs.WrittenRead.{command-written, command-form, reply-written, reply-form}
+
+-- ---- SRC, DST and LEN need no escape
+
+source-plain : (b : ℕ) → initiator b ≡ true → escaped b ≡ b ∷ []
+unfolding initiator initiatorNibble
+source-plain b h =
+    escaped-plain b (λ e. true-not-false (subst (λ (x : ℕ). initiator x ≡ true) e h) refl)
+    (λ e. true-not-false (subst (λ (x : ℕ). initiator x ≡ true) e h) refl)
+
+destination-plain : (b : ℕ) → reserved b ≡ false → escaped b ≡ b ∷ []
+unfolding reserved
+destination-plain b h =
+    escaped-plain b (λ e. true-not-false refl (subst (λ (x : ℕ). reserved x ≡ false) e h))
+    (λ e. true-not-false refl (subst (λ (x : ℕ). reserved x ≡ false) e h))
+
+length-plain : (b : ℕ) → b ≤ longest → escaped b ≡ b ∷ []
+length-plain b h = escaped-plain b (λ e. omega arith) (λ e. omega arith)
+
+-- ---- the lengths: PB, SB, data and check byte may take two raw bytes each
+
+plain-longer : (b : ℕ) (bs : List ℕ) → escaped b ≡ b ∷ [] → length (expanded (b ∷ bs)) ≡ suc (length (expanded bs))
+unfolding expanded
+plain-longer b bs plain = ap (λ (l : List ℕ). length (l ++ expanded bs)) plain
+
+head-longer : (b : ℕ) (bs : List ℕ) → length (expanded (b ∷ bs)) ≤ 2 + length (expanded bs)
+unfolding expanded
+head-longer b bs = omega (arith, length-append (escaped b) (expanded bs), expanded-at-most (b ∷ []), length-append (escaped b) [])
+
+reply-length : (n : ℕ) (behind : List ℕ) → n ≤ longest → length behind ≡ n + 1 → length (expanded (n ∷ behind)) ≤ 35
+reply-length n behind short size = omega (arith, plain-longer n behind (length-plain n short), expanded-at-most behind)
+
+command-length : (source destination primary secondary n : ℕ) (behind : List ℕ)
+    → initiator source ≡ true → reserved destination ≡ false → n ≤ longest → length behind ≡ n + 1
+    → length (expanded (source ∷ destination ∷ primary ∷ secondary ∷ n ∷ behind)) ≤ 41
+command-length source destination primary secondary n behind from to short size =
+    omega (
+      arith,
+      plain-longer source (destination ∷ primary ∷ secondary ∷ n ∷ behind) (source-plain source from),
+      plain-longer destination (primary ∷ secondary ∷ n ∷ behind) (destination-plain destination to),
+      head-longer primary (secondary ∷ n ∷ behind),
+      head-longer secondary (n ∷ behind),
+      reply-length n behind short size,
+    )
+
+form-at-most : (command : Bool) (telegram : List ℕ) → Form command telegram → length (expanded telegram) ≤ longestOnWire command
+form-at-most true telegram f =
+    subst (λ (l : List ℕ). length (expanded l) ≤ 41) (sym (f .bytes))
+    (command-length (f .source) (f .destination) (f .primary) (f .secondary) (length (f .payload)) (f .payload ++ f .check ∷ [])
+    (f .from-initiator) (f .not-reserved) (f .short) (one-longer (f .payload) (f .check)))
+form-at-most false telegram f =
+    subst (λ (l : List ℕ). length (expanded l) ≤ 35) (sym (f .bytes))
+    (reply-length (length (f .payload)) (f .payload ++ f .check ∷ []) (f .short) (one-longer (f .payload) (f .check)))
+
+-- what is written
+command-at-most : (source destination primary secondary : ℕ) (payload raw : List ℕ)
+    → commandOutput source destination primary secondary payload ≡ bytes raw → length raw ≤ longestOnWire true
+command-at-most source destination primary secondary payload raw e =
+    subst (λ (l : List ℕ). length l ≤ 41) (sym (command-written source destination primary secondary payload raw e .wire))
+    (form-at-most true (commandBytes source destination primary secondary payload) (command-form source destination primary secondary payload raw e))
+
+reply-at-most : (payload raw : List ℕ) → replyOutput payload ≡ bytes raw → length raw ≤ longestOnWire false
+reply-at-most payload raw e =
+    subst (λ (l : List ℕ). length l ≤ 35) (sym (reply-written payload raw e .wire)) (form-at-most false (replyBytes payload) (reply-form payload raw e))
+
+-- what is read from a position ends at most that many raw bytes behind it
+read-at-most : (command : Bool) (run : List ℕ) (at : ℕ) (telegram : List ℕ) (checkPlace next : ℕ)
+    → telegramAt command run at ≡ read telegram checkPlace next → next ≤ at + longestOnWire command
+read-at-most command run at telegram checkPlace next e =
+    let s = stood command run at telegram checkPlace next e in
+    omega (arith, s .ends, form-at-most command telegram (form-of command telegram (s .whole)))
+
+-- ---- both are reached: sixteen data bytes that need an escape, and a check byte that does, A9
+
+abbrev longestCommandData : List ℕ
+longestCommandData =
+    0xAA ∷ 0xA9 ∷ 0xA9 ∷ 0xAA ∷ 0xAA ∷ 0xA9 ∷ 0xA9 ∷ 0xA9 ∷ 0xA9 ∷ 0xA9 ∷ 0xA9 ∷ 0xA9 ∷ 0xA9 ∷ 0xA9 ∷ 0xA9 ∷ 0xA9 ∷ []
+
+abbrev longestReplyData : List ℕ
+longestReplyData =
+    0xA9 ∷ 0xA9 ∷ 0xA9 ∷ 0xAA ∷ 0xA9 ∷ 0xAA ∷ 0xAA ∷ 0xA9 ∷ 0xA9 ∷ 0xA9 ∷ 0xA9 ∷ 0xA9 ∷ 0xA9 ∷ 0xA9 ∷ 0xA9 ∷ 0xA9 ∷ []
+
+command-reaches : (payload : List ℕ) × (raw : List ℕ) × (commandOutput 0x10 0x08 0xA9 0xA9 payload ≡ bytes raw) × (length raw ≡ longestOnWire true)
+unfolding commandOutput closed initiator initiatorNibble reserved ebusCheck ebusBytes enter step bits escaped expanded
+command-reaches = (longestCommandData, expanded (closed (0x10 ∷ 0x08 ∷ 0xA9 ∷ 0xA9 ∷ 16 ∷ longestCommandData)), refl, refl)
+
+reply-reaches : (payload : List ℕ) × (raw : List ℕ) × (replyOutput payload ≡ bytes raw) × (length raw ≡ longestOnWire false)
+unfolding replyOutput closed ebusCheck ebusBytes enter step bits escaped expanded
+reply-reaches = (longestReplyData, expanded (closed (16 ∷ longestReplyData)), refl, refl)
+
+pub lengths : Lengths
+lengths =
+    record {
+      source-plain = source-plain;
+      destination-plain = destination-plain;
+      length-plain = length-plain;
+      at-most = form-at-most;
+      command-at-most = command-at-most;
+      reply-at-most = reply-at-most;
+      read-at-most = read-at-most;
+      command-reaches = command-reaches;
+      reply-reaches = reply-reaches;
+    }

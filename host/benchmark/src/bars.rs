@@ -1,0 +1,114 @@
+//! What must be reached, and whether it is. Every bar is a ratio with the
+//! archive's speed above the line, so more is better.
+
+use crate::case::SECOND;
+use crate::checks::{C, C_WIDE, EBUS, MODBUS};
+use crate::contest::CONTEST;
+use crate::judge::JUDGE;
+use crate::report::{Measured, Ratio};
+use crate::scan::{MOST, SCAN};
+use crate::table::{START, VALID};
+
+/// One bar: what it is on, what must be reached, and what was.
+pub struct Bar {
+    on: String,
+    least: f64,
+    value: f64,
+}
+
+impl Bar {
+    fn held(&self) -> bool {
+        self.value >= self.least
+    }
+}
+
+/// All bars on what was measured.
+pub fn all(measured: &[Measured], ratios: &[Ratio]) -> Vec<Bar> {
+    let mut bars: Vec<Bar> = ratios.iter().filter_map(on_ratio).collect();
+    bars.extend(linear(measured));
+    bars.extend(steps(measured).iter().map(Step::bar));
+    bars
+}
+
+/// Says of each bar whether it is held; the answer is whether all are.
+pub fn print(bars: &[Bar]) -> bool {
+    for bar in bars {
+        let word = if bar.held() { "held" } else { "missed" };
+        println!("bar {} {} {word}: {:.3}", bar.on, bar.least, bar.value);
+    }
+    let held = bars.iter().filter(|bar| bar.held()).count();
+    println!("bars: {held} held, {} missed", bars.len() - held);
+    held == bars.len()
+}
+
+/// The bars on our speed over a peer's.
+fn on_ratio(ratio: &Ratio) -> Option<Bar> {
+    let least = match (ratio.case, ratio.peer, ratio.size) {
+        (MODBUS | EBUS, C | C_WIDE, 64..) => 0.95,
+        (MODBUS | EBUS, C | C_WIDE, 8) => 0.6,
+        (JUDGE, SECOND, _) => 1.0,
+        (SCAN, SECOND, MOST) => 1.0,
+        (SCAN, "bus", MOST) => 200.0,
+        _ => return None,
+    };
+    Some(Bar {
+        on: format!("{} {} {}", ratio.case, ratio.size, ratio.peer),
+        least,
+        value: ratio.speed,
+    })
+}
+
+/// The contest grows linearly: one key of 247 takes little longer than one of
+/// 64. Growth by n log n would reach 0.75 and by n squared 0.26; what 0.8 leaves
+/// is for branches that a processor foretells in short lists and not in long.
+fn linear(measured: &[Measured]) -> Option<Bar> {
+    const FEW: usize = 64;
+    let per_key = |size| Some(time(measured, CONTEST, size)? / size as f64);
+    Some(Bar {
+        on: format!("{CONTEST} {MOST} per-key-of-{FEW}"),
+        least: 0.8,
+        value: per_key(FEW)? / per_key(MOST)?,
+    })
+}
+
+/// A start in two parts, in nanoseconds.
+pub struct Step {
+    pub devices: usize,
+    /// The test of the table.
+    pub test: f64,
+    /// The rest, which is the step of a scan.
+    pub behind: f64,
+}
+
+impl Step {
+    /// The test takes no longer than the step behind it.
+    fn bar(&self) -> Bar {
+        Bar {
+            on: format!("{VALID} {} step", self.devices),
+            least: 1.0,
+            value: self.behind / self.test,
+        }
+    }
+}
+
+/// The steps at every number of devices at which both parts were measured.
+pub fn steps(measured: &[Measured]) -> Vec<Step> {
+    let starts = measured.iter().filter(|one| one.case == START);
+    starts
+        .filter_map(|start| {
+            let test = time(measured, VALID, start.size)?;
+            Some(Step {
+                devices: start.size,
+                test,
+                behind: start.ours() - test,
+            })
+        })
+        .collect()
+}
+
+/// The archive's time in a case, where it was measured.
+fn time(measured: &[Measured], case: &str, size: usize) -> Option<f64> {
+    let mut all = measured.iter();
+    let one = all.find(|one| (one.case, one.size) == (case, size))?;
+    Some(one.ours())
+}

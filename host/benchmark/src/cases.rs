@@ -1,0 +1,33 @@
+//! All cases, and how one is made from its name and size.
+
+use crate::case::Case;
+use crate::{checks, contest, exchanges, judge, scan, table};
+
+/// Numbers of keys and of devices.
+const NUMBERS: [usize; 4] = [1, 16, 64, scan::MOST];
+
+/// Every case with its sizes, in the order in which they are measured.
+pub const ALL: [(&str, &[usize]); 7] = [
+    (checks::MODBUS, &[8, 64, 256, 4096]),
+    (checks::EBUS, &[8, 20, 64, 256]),
+    (judge::JUDGE, &[exchanges::LONG, exchanges::SHORT]),
+    (contest::CONTEST, &NUMBERS),
+    (table::VALID, &NUMBERS),
+    (table::START, &NUMBERS),
+    (scan::SCAN, &NUMBERS),
+];
+
+/// Makes the inputs and compares the candidates' answers on them; an error is
+/// a difference.
+pub fn make(name: &str, size: usize) -> Result<Case, String> {
+    match name {
+        checks::MODBUS => checks::modbus(size),
+        checks::EBUS => checks::ebus(size),
+        judge::JUDGE => judge::judge(size),
+        contest::CONTEST => contest::contest(size),
+        table::VALID => table::valid(size),
+        table::START => table::start(size),
+        scan::SCAN => scan::scan(size),
+        _ => Err(format!("there is no case {name}")),
+    }
+}
