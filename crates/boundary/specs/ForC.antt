@@ -8,7 +8,7 @@ use Rattle.refusal.specs.Numbers.{Numbers, value, writtenNumbers}
 use Rattle.refusal.specs.declared.Written.{Written}
 use Rattle.ebus.specs.Logical.{logicalNumbers}
 use Rattle.ebus.specs.declared.escape.Logical.{Logical}
-use Rattle.exchange.specs.Telegram.{Telegram, read, unread}
+use Rattle.telegram.specs.Telegram.{Telegram, read, unread}
 use Rattle.exchange.specs.declared.judge.Judged.{Judged}
 use Rattle.fastmodbus.specs.Reading.{requestNumbers, answerNumbers}
 use Rattle.fastmodbus.specs.declared.RequestRead.{RequestRead}

@@ -14,6 +14,7 @@ use Rattle.crc.specs.Register.{left, steps, enter, bits}
 use Rattle.crc.proofs.Xor.{xor-assoc}
 use Rattle.crc.proofs.Register.{enter-spelled, bits-are-bits, spelled-bits}
 use Rattle.crc.proofs.Table.{IsTable, entry-lt, by-table}
+use Rattle.lists.proofs.Filling.{drop-next}
 use Rattle.ebus.specs.Check.{ebusPolynomial, ebusBytes}
 use Rattle.ebus.specs.Escape.{esc, syn, expanded}
 use Rattle.ebus.proofs.Escaped.{expanded-plain, expanded-special}
@@ -72,3 +73,11 @@ above x y hx hy =
 
 pub table-lt : {table : List ℕ} → IsTable left 8 ebusPolynomial table → (k : ℕ) → k < 256 → getD table k 0 < 256
 table-lt {table} t k hk = entry-lt left 8 ebusPolynomial table t (lit< tt) (lit≤ tt) k hk
+
+-- ---- raw bytes, in which escapes are expanded already
+
+-- one turn of a loop over them
+pub wire-turn : {table : List ℕ} → IsTable left 8 ebusPolynomial table → (raw : List ℕ) (i r : ℕ) → i < length raw → r < 256 → getD raw i 0 < 256
+    → ebusBytes r (drop i raw) ≡ ebusBytes (bitXor (getD table r 0) (getD raw i 0)) (drop (i + 1) raw)
+unfolding ebusBytes
+wire-turn t raw i r h hr hb = ap (ebusBytes r) (drop-next raw i h) ∙ ap (λ (x : ℕ). ebusBytes x (drop (i + 1) raw)) (ebus-byte t r (getD raw i 0) hr hb)

@@ -23,7 +23,7 @@ use Rattle.ebus.proofs.Undo.{Stands, logical-stands, before-bytes, none
 -- ---- a byte on the wire is read as itself
 
 -- a byte is A9, AA or neither
-kinds : (b : ℕ) → (((b ≡ esc) ⊎ (b ≡ syn)) ⊎ ((b ≡ esc → ⊥) × (b ≡ syn → ⊥)))
+pub kinds : (b : ℕ) → (((b ≡ esc) ⊎ (b ≡ syn)) ⊎ ((b ≡ esc → ⊥) × (b ≡ syn → ⊥)))
 kinds b =
     ⊎-elim (λ e. inl (inl e)) (λ no-esc. ⊎-elim (λ e. inl (inr e)) (λ no-syn. inr (no-esc, no-syn)) (same-or-not b syn)) (same-or-not b esc)
 

@@ -1,24 +1,25 @@
 -- Laws of reading logical bytes one after another.
 -- Assumes nothing.
-use mathlib.Core.Path.{_≡_, refl, sym, ap, _∙_, subst}
+use mathlib.Core.Path.{_≡_, refl, sym, ap, ap₂, _∙_, subst}
 use mathlib.Core.List.{List, [], _∷_, _++_}
 use Prim.Native.Nat.{ℕ, zero, suc, _+_, _-_, _≤_, _<_}
 use native.Mathlib.Omega.{arith}
 use lib.Dec.{eqb, ltb}
-use lib.ListN.{length, getD, take, drop, set}
+use lib.ListN.{length, getD, take, drop, set, length-drop}
+use lib.Seq.{length-take-le, take-all}
 use borrow.Author.Tests.{lt-ltb, le-ltb, ltb-true, eqb-true, eqb-false}
 use Rattle.lists.specs.Starting.{starting}
-use Rattle.refusal.specs.Output.{Output, bytes, refused, content, written}
+use Rattle.refusal.specs.Output.{Output, bytes, refused, written}
 use Rattle.refusal.specs.declared.Refusal.{Refusal}
 use Rattle.refusal.specs.declared.Written.{Written}
 use Rattle.refusal.specs.declared.Written.the-variants.{Length, Refused as NotWritten}
 use Rattle.lists.proofs.Cases.{pick-cases}
-use Rattle.lists.proofs.Filling.{drop-next, head-within, rest-is, fill-within, fill-next}
+use Rattle.lists.proofs.Filling.{drop-next, head-within, head-is, rest-is, written-on, first-more, length-starting}
 use Rattle.ebus.specs.Escape.{esc, syn, escaped}
 use Rattle.ebus.proofs.Escaped.{escaped-plain}
 use Rattle.ebus.specs.declared.escape.Logical.{Logical}
 use Rattle.ebus.specs.declared.escape.Logical.the-variants.{Byte, Refused}
-use Rattle.ebus.specs.Logical.{escapeAt, logicalAt}
+use Rattle.ebus.specs.Logical.{escapeAt, logicalAt, andThen, logicalsAt}
 use Rattle.ebus.specs.Undo.{before, withRest, undoneFrom, undone}
 
 -- ---- what a logical byte says of the raw bytes: it takes at least one, none behind the end, and stands there escaped
@@ -116,46 +117,93 @@ before-bytes b (bytes bs) l e =
     (ap (λ (x : List ℕ). bytes (drop 1 x)) same, sym same ∙ ap (λ (x : List ℕ). b ∷ drop 1 x) same)
 before-bytes b (refused why) l e = let z : _≡_ {A = ℕ} 0 1 = cc in let f : ⊥ = omega arith in absurd f
 
--- ---- one turn of the loop that writes the logical bytes of an accepted input
+-- ---- the logical bytes from a position on
 
--- the output starts with the first n logical bytes, and the input from at on gives the others
-pub record Undoing (raw old out : List ℕ) (n at : ℕ) : Type 0 where
-  pub read : n ≤ at
-  pub ends : at ≤ length raw
-  pub within : n ≤ length (content (undone raw))
-  pub rest : undoneFrom raw (length raw - n) at ≡ bytes (drop n (content (undone raw)))
-  pub output : out ≡ starting (take n (content (undone raw))) old
+-- an accepted input's logical bytes are those from its start
+behind-byte : (raw : List ℕ) (rest : ℕ → Output) (m at : ℕ) (bs : List ℕ)
+    → ((next : ℕ) (cs : List ℕ) → rest next ≡ bytes cs → logicalsAt raw (length cs) next ≡ cs)
+    → (l : Logical) → logicalAt raw at ≡ l → withRest l rest ≡ bytes bs → logicalsAt raw (length bs) at ≡ bs
+unfolding logicalsAt
+behind-byte raw rest m at bs then (Refused why) is e = let z : _≡_ {A = ℕ} 0 1 = cc in let f : ⊥ = omega arith in absurd f
+behind-byte raw rest m at bs then (Byte b next) is e =
+    let parts = before-bytes b (rest next) bs e in
+    ap (λ (l : List ℕ). logicalsAt raw (length l) at) (parts .1)
+    ∙ ap (λ (l : Logical). andThen l (logicalsAt raw (length (drop 1 bs)))) is
+    ∙ ap (λ (l : List ℕ). b ∷ l) (then next (drop 1 bs) (parts .0))
+    ∙ sym (parts .1)
 
-module _ (raw old out : List ℕ) (n at : ℕ) (u : Undoing raw old out n at) (more : at < length raw) where
-  -- an accepted input has no refusal in it
-  pub never-refused : (why : Refusal) → logicalAt raw at ≡ Refused why → ⊥
-  never-refused why e =
-      let gone = turn-refused raw n at (u .read) more why e in
-      let stays = u .rest in
-      let z : _≡_ {A = ℕ} 0 1 = cc in
-      omega arith
+from-there : (raw : List ℕ) (m at : ℕ) (bs : List ℕ) → undoneFrom raw m at ≡ bytes bs → logicalsAt raw (length bs) at ≡ bs
+unfolding undoneFrom logicalsAt
+from-there raw zero at bs e = let none : [] ≡ bs = cc in ap (λ (l : List ℕ). logicalsAt raw (length l) at) (sym none) ∙ none
+from-there raw (suc m) at bs e =
+    pick-cases (λ (o : Output). o ≡ bytes bs → logicalsAt raw (length bs) at ≡ bs) (ltb at (length raw)) _ _
+    (λ _ e. behind-byte raw (undoneFrom raw m) m at bs (λ next cs f. from-there raw m next cs f) (logicalAt raw at) refl e)
+    (λ _ e. let none : [] ≡ bs = cc in ap (λ (l : List ℕ). logicalsAt raw (length l) at) (sym none) ∙ none) e
 
-  module _ (room : length (content (undone raw)) ≤ length old) (b next : ℕ) (e : logicalAt raw at ≡ Byte b next) where
-    pub record Undid : Type 0 where
-      pub later : at < next
-      pub room-for : n < length out
-      pub undoing : Undoing raw old (set out n b) (n + 1) next
+pub undone-logicals : (raw bs : List ℕ) → undone raw ≡ bytes bs → logicalsAt raw (length bs) 0 ≡ bs
+unfolding undone
+undone-logicals raw bs e = from-there raw (length raw) 0 bs e
 
-    pub undid : Undid
-    undid =
-        let all = content (undone raw) in
-        let ahead = stands raw at b next e in
-        let parts = before-bytes b (undoneFrom raw (length raw - (n + 1)) next) (drop n all) (sym (turn-byte raw n at (u .read) more b next e) ∙ u .rest) in
-        let behind = drop 1 (drop n all) in
-        record {
-          later = ahead .0;
-          room-for = fill-within all old out n b behind room (u .output) (parts .1);
-          undoing =
-              record {
-                read = omega arith;
-                ends = ahead .1;
-                within = omega (arith, head-within all n b behind (parts .1));
-                rest = parts .0 ∙ ap bytes (sym (rest-is all n b behind (parts .1)));
-                output = fill-next all old out n b behind room (u .output) (parts .1);
-              };
-        }
+-- one turn of the loop that puts them: what the next logical byte makes of those to come
+module _ (run : List ℕ) (n at : ℕ) (due : 0 < n) where
+  by-logical : (l : Logical) → logicalAt run at ≡ l → logicalsAt run n at ≡ andThen l (logicalsAt run (n - 1))
+  unfolding logicalsAt
+  by-logical l e =
+      let one : n ≡ suc (n - 1) = omega arith in
+      ap (λ (m : ℕ). logicalsAt run m at) one ∙ ap (λ (x : Logical). andThen x (logicalsAt run (n - 1))) e
+
+  pub next-logical : (b next : ℕ) → logicalAt run at ≡ Byte b next → logicalsAt run n at ≡ b ∷ logicalsAt run (n - 1) next
+  next-logical b next e = by-logical (Byte b next) e
+
+  pub no-logical : (why : Refusal) → logicalAt run at ≡ Refused why → logicalsAt run n at ≡ []
+  no-logical why e = by-logical (Refused why) e
+
+pub none-due : (run : List ℕ) (n at : ℕ) → n ≤ 0 → logicalsAt run n at ≡ []
+unfolding logicalsAt
+none-due run n at h =
+    let none : n ≡ 0 = omega arith in
+    ap (λ (m : ℕ). logicalsAt run m at) none
+
+-- n logical bytes are due, of which the output starts with the first i, as far as it holds them
+pub record Putting (run old out : List ℕ) (n at i next : ℕ) : Type 0 where
+  pub within : i ≤ length (logicalsAt run n at)
+  pub held : i ≤ length old
+  pub rest : drop i (logicalsAt run n at) ≡ logicalsAt run (n - i) next
+  pub output : out ≡ starting (take i (logicalsAt run n at)) old
+
+module _ (run old out : List ℕ) (n at i next : ℕ) (p : Putting run old out n at i next) where
+  pub putting-length : length out ≡ length old
+  putting-length =
+      let all = logicalsAt run n at in
+      let short : length (take i all) ≡ i = length-take-le i all (p .within) in
+      ap length (p .output) ∙ length-starting (take i all) old (omega (arith, p .held))
+
+  -- the output is full
+  pub put-full : length old ≤ i → out ≡ starting (take (length old) (logicalsAt run n at)) old
+  put-full h =
+      let all : i ≡ length old = omega (arith, p .held) in
+      p .output ∙ ap (λ (k : ℕ). starting (take k (logicalsAt run n at)) old) all
+
+  -- none is left
+  pub put-over : logicalsAt run (n - i) next ≡ [] → out ≡ starting (take (length old) (logicalsAt run n at)) old
+  put-over none =
+      let all = logicalsAt run n at in
+      let gone : length all ≤ i = omega (arith, length-drop i all, ap length (p .rest ∙ none)) in
+      p .output ∙ ap (λ (l : List ℕ). starting l old) (take-all i all gone ∙ sym (take-all (length old) all (omega (arith, p .held))))
+
+  -- one more
+  pub put-next : i < n → i < length old → (b behind : ℕ) → logicalAt run next ≡ Byte b behind → Putting run old (set out i b) n at (i + 1) behind
+  put-next more room b behind e =
+      let all = logicalsAt run n at in
+      let due : drop i all ≡ b ∷ logicalsAt run (n - i - 1) behind = p .rest ∙ next-logical run (n - i) next (omega arith) b behind e in
+      let h : i < length all = head-within all i b _ due in
+      let less : n - i - 1 ≡ n - (i + 1) = omega arith in
+      record {
+        within = omega arith;
+        held = omega arith;
+        rest = rest-is all i b _ due ∙ ap (λ (m : ℕ). logicalsAt run m behind) less;
+        output =
+            ap₂ (λ (l : List ℕ) (x : ℕ). set l i x) (p .output) (sym (head-is all i b _ due))
+            ∙ written-on (take i all) old (getD all i 0) i (length-take-le i all (omega arith)) room
+            ∙ ap (λ (l : List ℕ). starting l old) (first-more all i h);
+      }

@@ -1,6 +1,6 @@
--- Rule E4: a logical byte of a raw run, at an absolute position.
+-- Rule E4: a logical byte of a raw run, at an absolute position, and those from a position on.
 -- Assumes nothing.
-use Prim.Native.Nat.{ℕ, _+_}
+use Prim.Native.Nat.{ℕ, zero, suc, _+_}
 use mathlib.Core.List.{List, [], _∷_}
 use lib.Dec.{eqb, ltb}
 use lib.ListN.{length, getD}
@@ -37,3 +37,13 @@ logicalAt run at =
     (pick (eqb (getD run at 0) esc) (escapeAt run (at + 1))
     (pick (eqb (getD run at 0) syn) (Refused (at-place synEarly at)) (Byte (getD run at 0) (at + 1))))
     (Refused (runOver run))
+
+-- a logical byte and what follows it; nothing where there is none
+abbrev pub andThen : Logical → (ℕ → List ℕ) → List ℕ
+andThen (Byte b next) rest = b ∷ rest next
+andThen (Refused why) rest = []
+
+-- n logical bytes from a position on, or those before the first refusal
+unfoldable pub logicalsAt : List ℕ → ℕ → ℕ → List ℕ
+logicalsAt run zero at = []
+logicalsAt run (suc n) at = andThen (logicalAt run at) (logicalsAt run n)

@@ -1,7 +1,7 @@
 // The eBUS check byte, one byte a step from a table.
 //
-// The loop's own function takes the table once: a constant array has no storage of its own, and one
-// that is indexed inside a small function is built on the stack again at each call.
+// A constant array has no storage of its own: each function that takes the table builds it on its
+// stack. So a loop takes it once, and who checks several telegrams takes it once for all of them.
 use crate::escape::ESC;
 use crate::escape::SYN;
 use crate::table::EBUS_TABLE;
@@ -10,7 +10,7 @@ ghost use Rattle.ebus.specs.BitByBit.{EbusTable};
 ghost use Rattle.ebus.specs.Check.{ebusCheck};
 
 // The table: at every entry, eight steps of the bit-by-bit rule.
-fn ebus_table() -> [u8; 256]
+pub fn ebus_table() -> [u8; 256]
     ensures { λ r. ⌜ EbusTable r ⌝ }
 {
     EBUS_TABLE

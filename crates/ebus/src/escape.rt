@@ -11,12 +11,12 @@ use refusal::Written;
 ghost use mathlib.Core.Path.{_≡_};
 ghost use mathlib.Mathlib.Logic.Function.Defs.{id};
 ghost use Prim.Native.Nat.{_+_, _≤_};
-ghost use lib.ListN.{length};
+ghost use lib.ListN.{length, take};
 ghost use Rattle.ebus.specs.Escape.{expanded};
 ghost use Rattle.refusal.specs.Number.{outputShort, at-place};
 ghost use Rattle.lists.specs.Starting.{starting};
-ghost use Rattle.refusal.specs.Output.{bytes, content, fitting, Wrote, written};
-ghost use Rattle.ebus.specs.Logical.{escapeAt, logicalAt};
+ghost use Rattle.refusal.specs.Output.{bytes, fitting, Wrote, written};
+ghost use Rattle.ebus.specs.Logical.{escapeAt, logicalAt, logicalsAt};
 ghost use Rattle.ebus.specs.Undo.{undone};
 
 // The byte that begins an escape, and SYN, which is never escaped.
@@ -101,21 +101,23 @@ fn undone_length(raw: &[u8]) -> Written
     Written::Length(n)
 }
 
-// Writes the logical bytes of a raw input that has no fault, where the output has room for them.
-fn undo_into(raw: &[u8], out: &mut [u8])
-    requires { ⌜ undone (now raw) ≡ bytes (content (undone (now raw))) ⌝ }
-    requires { ⌜ length (content (undone (now raw))) ≤ length (now out) ⌝ }
-    ensures { λ _. ⌜ now (out .exit) ≡ starting (content (undone (now (raw .entry)))) (now (out .entry)) ⌝ }
+// Puts n logical bytes from a position on at the start of a lent output: those before the first
+// refusal, and as many as the output holds. The bytes behind them stay.
+pub fn put_logical(run: &[u8], at: usize, n: usize, out: &mut [u8])
+    ensures { λ _. ⌜ now (out .exit) ≡ starting (take (length (now (out .entry))) (logicalsAt (now (run .entry)) n at)) (now (out .entry)) ⌝ }
 {
-    let mut at = 0;
-    let mut n = 0;
-    while at < raw.len() {
-        let Logical::Byte(value, next) = logical_at(raw, at) else {
+    let mut next = at;
+    let mut i = 0;
+    while i < n {
+        if out.len() <= i {
+            return;
+        }
+        let Logical::Byte(value, behind) = logical_at(run, next) else {
             return;
         };
-        out[n] = value;
-        n += 1;
-        at = next;
+        out[i] = value;
+        next = behind;
+        i += 1;
     }
 }
 
@@ -132,7 +134,7 @@ pub fn undo(raw: &[u8], out: &mut [u8]) -> Written
     if out.len() < n {
         return too_short();
     }
-    undo_into(raw, out);
+    put_logical(raw, 0, n, out);
     Written::Length(n)
 }
 

@@ -6,7 +6,6 @@ use mathlib.Core.List.{List}
 use mathlib.Mathlib.Logic.Function.Defs.{id}
 use Prim.Native.Nat.{ℕ, _≤_}
 use lib.Dec.{leb}
-use lib.ListN.{take}
 use borrow.Author.Tests.{le-leb, leb-true}
 use Rattle.lists.specs.Choice.{pick}
 use Rattle.refusal.specs.Number.{outputShort, at-place}
@@ -17,7 +16,8 @@ use Rattle.ebus.specs.declared.address.ExchangeKind.{ExchangeKind}
 use Rattle.exchange.specs.declared.judge.Judged.{Judged}
 use Rattle.exchange.specs.declared.judge.Judged.the-variants.{Accepted, Refused}
 use Rattle.exchange.specs.declared.judge.Replies.{Replies as RepliesStruct}
-use Rattle.exchange.specs.Telegram.{commandRoom, replyRoom}
+use Rattle.ebus.specs.Logical.{logicalsAt}
+use Rattle.telegram.specs.Telegram.{commandRoom, replyRoom}
 use Rattle.exchange.specs.Exchange.{Outcome, accepted, rejected, exchange, rooms, judged}
 use Rattle.exchange.specs.View.{answered, commandOf, firstOf, secondOf, Judges}
 use Rattle.exchange.specs.Inner.{outcomeAs, repliesOf}
@@ -64,15 +64,16 @@ module _ (o : Outcome) (command first second : List ℕ) where
       }
 
   -- an acceptance fills them
-  pub accepts : (bytes one two : List ℕ) (e : RepliesStruct) (kind : ExchangeKind) (commands replies read : ℕ) (command′ first′ second′ : List ℕ)
-      → o ≡ repliesOf e bytes one two → e .verdict ≡ Accepted kind commands replies read
+  pub accepts : (bytes run : List ℕ) (at : ℕ) (e : RepliesStruct) (kind : ExchangeKind) (commands replies read : ℕ) (command′ first′ second′ : List ℕ)
+      → o ≡ repliesOf e run at bytes → e .verdict ≡ Accepted kind commands replies read
       → command′ ≡ starting bytes command
-      → first′ ≡ starting (take (e .len1) one) first
-      → second′ ≡ starting (take (e .len2) two) second
+      → first′ ≡ starting (logicalsAt run (e .len1) at) first
+      → second′ ≡ starting (logicalsAt run (e .len2) (e .second)) second
       → Judges id o (e .verdict) command command′ first first′ second second′
-  accepts bytes one two e kind commands replies read command′ first′ second′ is told c f s =
-      let whole : o ≡ accepted kind commands replies read bytes (take (e .len1) one) (take (e .len2) two) =
-      is ∙ ap (outcomeAs bytes (take (e .len1) one) (take (e .len2) two)) told in
+  accepts bytes run at e kind commands replies read command′ first′ second′ is told c f s =
+      let one = logicalsAt run (e .len1) at in
+      let two = logicalsAt run (e .len2) (e .second) in
+      let whole : o ≡ accepted kind commands replies read bytes one two = is ∙ ap (outcomeAs bytes one two) told in
       record {
         result = told ∙ ap answered (sym whole);
         command-buffer = c ∙ ap (λ (x : Outcome). starting (commandOf x) command) (sym whole);

@@ -13,10 +13,10 @@ use Rattle.ebus.specs.Escape.{escaped, expanded}
 use Rattle.ebus.specs.declared.address.ExchangeKind.the-variants.{InitiatorTarget}
 use Rattle.ebus.specs.Address.{initiatorNibble, initiator, reserved, kindOf}
 use Rattle.ebus.specs.Logical.{escapeAt, logicalAt}
-use Rattle.exchange.specs.Telegram.{commandRoom, replyRoom, checkRight, fieldAt, faultOf, collected, telegramAt}
+use Rattle.telegram.specs.Telegram.{commandRoom, replyRoom, checkRight, fieldAt, faultOf, collected, telegramAt}
 use Rattle.exchange.specs.Exchange.{accepted, rejected, acknowledgeAt, settled, unanswered, attemptAt, triesAt, synAt, exchangeAt, exchange, judged}
-use Rattle.exchange.specs.Data.{replyData}
-use Rattle.exchange.proofs.Data.{first-whole}
+use Rattle.telegram.specs.Data.{replyData}
+use Rattle.telegram.proofs.Data.{first-whole}
 use Rattle.exchange.proofs.Buffers.{room-enough}
 
 abbrev pub command : List ℕ

@@ -14,7 +14,7 @@ use Rattle.ebus.specs.declared.address.ExchangeKind.{ExchangeKind}
 use Rattle.ebus.specs.declared.address.ExchangeKind.the-variants.{Broadcast, InitiatorInitiator, InitiatorTarget}
 use Rattle.ebus.specs.Address.{kindOf}
 use Rattle.ebus.specs.Logical.{runOver}
-use Rattle.exchange.specs.Telegram.{commandRoom, replyRoom, destinationOf, checkRight, Telegram, read, unread, telegramAt}
+use Rattle.telegram.specs.Telegram.{commandRoom, replyRoom, destinationOf, checkRight, Telegram, read, unread, telegramAt}
 
 -- the two acknowledge bytes
 abbrev pub ack : ℕ

@@ -1,20 +1,16 @@
 -- What only private contracts need: how the structs that the functions hand each other show as the definitions' values. Their
--- bytes stand in the buffers that go with them.
+-- bytes are the logical bytes of the run from where a telegram starts.
 -- Assumes nothing.
 use mathlib.Core.Path.{_≡_}
 use mathlib.Core.Bool.{Bool}
 use Prim.Native.Nat.{ℕ, _≤_}
-use mathlib.Core.List.{List, []}
-use lib.ListN.{getD, take}
-use Rattle.refusal.specs.Number.{at-place}
+use mathlib.Core.List.{List, _++_}
+use lib.ListN.{length, drop}
 use Rattle.refusal.specs.declared.Refusal.{Refusal}
-use Rattle.ebus.specs.declared.escape.Logical.{Logical}
-use Rattle.ebus.specs.declared.escape.Logical.the-variants.{Byte, Refused as NoByte}
-use Rattle.exchange.specs.declared.telegram.Field.{Field as FieldEnum}
-use Rattle.exchange.specs.declared.telegram.Field.the-variants.{Source, Destination, Length, Other}
-use Rattle.exchange.specs.declared.telegram.Reading.{Reading}
-use Rattle.exchange.specs.declared.telegram.Reading.the-variants.{Read, Unread}
-use Rattle.exchange.specs.declared.telegram.Extent.{Extent}
+use Rattle.ebus.specs.Escape.{expanded}
+use Rattle.ebus.specs.Logical.{logicalsAt}
+use Rattle.telegram.specs.declared.read.Extent.{Extent}
+use Rattle.telegram.specs.Telegram.{roomOf, lastOf, read, telegramAt}
 use Rattle.exchange.specs.declared.attempt.Acknowledge.{Acknowledge as AcknowledgeByte}
 use Rattle.exchange.specs.declared.attempt.Acknowledge.the-variants.{Positive, Negative, Invalid}
 use Rattle.exchange.specs.declared.attempt.Attempt.{Attempt as AttemptStruct}
@@ -26,62 +22,56 @@ use Rattle.exchange.specs.declared.attempt.Tried.the-variants.{Once, Twi
 use Rattle.exchange.specs.declared.judge.Judged.{Judged}
 use Rattle.exchange.specs.declared.judge.Judged.the-variants.{Accepted, Refused}
 use Rattle.exchange.specs.declared.judge.Replies.{Replies as RepliesStruct}
-use Rattle.exchange.specs.Telegram.{headOf, lengthPlace, longest, Field, SRC, DST, LEN, unjudged, Telegram, collected}
 use Rattle.exchange.specs.Exchange.{Acknowledge, positive, negative, invalid, Attempt, taken, nacked, failed, Tries, once, twice, neither, Outcome, accepted, rejected}
-use Rattle.exchange.specs.View.{readAs}
 
-abbrev pub fieldOf : FieldEnum → Field
-fieldOf Source = SRC
-fieldOf Destination = DST
-fieldOf Length = LEN
-fieldOf Other = unjudged
+-- a telegram of these bytes is read at a position
+abbrev pub Reads : Bool → List ℕ → ℕ → List ℕ → Type 0
+Reads command run start telegram = (last : ℕ) × (next : ℕ) × (telegramAt command run start ≡ read telegram last next)
 
--- why there is no logical byte; of a byte, nothing
-abbrev pub whyOf : Logical → Refusal
-whyOf (Byte b next) = at-place 0 0
-whyOf (NoByte why) = why
+-- n logical bytes stand at a position, no more than a command's buffer, or else a reply's, has room for
+pub record Ready (command : Bool) (run : List ℕ) (start n : ℕ) : Type 0 where
+  pub room : n ≤ roomOf command
+  pub size : length (logicalsAt run n start) ≡ n
+  pub rest : List ℕ
+  pub wire : drop start run ≡ expanded (logicalsAt run n start) ++ rest
 
--- why a telegram can't be read; of one that was read, nothing
-abbrev pub whyUnread : Reading → Refusal
-whyUnread Read = at-place 0 0
-whyUnread (Unread why) = why
-
--- how far a telegram was read, with the buffer whose first len bytes it is
-abbrev pub extentOf : Extent → List ℕ → Telegram
-extentOf t buffer = readAs (take (t .len) buffer) (t .last) (t .next) (t .reading)
-
--- what is known of a head that was read into a buffer: where it is whole, its last byte is LEN
-pub record HeadRead (command : Bool) (run : List ℕ) (at : ℕ) (t : Extent) (buffer : List ℕ) : Type 0 where
-  pub is : extentOf t buffer ≡ collected command run (headOf command) [] at at
-  pub most : t .len ≤ headOf command
-  pub whole : t .reading ≡ Read → t .len ≡ headOf command
-  pub short : t .reading ≡ Read → getD buffer (lengthPlace command) 0 ≤ longest
+-- what is known of a telegram that was read from a position
+pub record ReadFrom (run : List ℕ) (start : ℕ) (t : Extent) : Type 0 where
+  pub command : Bool
+  pub is : telegramAt command run start ≡ read (logicalsAt run (t .len) start) (t .last) (t .next)
+  pub final : lastOf (logicalsAt run (t .len) start) ≡ t .value
+  pub begins : start ≤ t .last
+  pub ends : t .last ≤ length run
 
 abbrev pub acknowledgeOf : AcknowledgeByte → Acknowledge
 acknowledgeOf (Positive next) = positive next
 acknowledgeOf (Negative place) = negative place
 acknowledgeOf (Invalid why) = invalid why
 
-abbrev pub attemptAs : List ℕ → ℕ → Standing → Attempt
-attemptAs telegram next Taken = taken telegram next
-attemptAs telegram next Nacked = nacked telegram next
-attemptAs telegram next (Failed why) = failed why
+abbrev pub attemptAs : List ℕ → ℕ → Refusal → Standing → Attempt
+attemptAs telegram next why Taken = taken telegram next
+attemptAs telegram next why Nacked = nacked telegram next
+attemptAs telegram next why Failed = failed why
 
-abbrev pub attemptOf : AttemptStruct → List ℕ → Attempt
-attemptOf a buffer = attemptAs (take (a .len) buffer) (a .next) (a .standing)
+abbrev pub attemptOf : AttemptStruct → List ℕ → ℕ → Attempt
+attemptOf a run start = attemptAs (logicalsAt run (a .len) start) (a .next) (a .why) (a .standing)
 
-abbrev pub triesAs : List ℕ → List ℕ → ℕ → Tried → Tries
-triesAs first second next Once = once first next
-triesAs first second next Twice = twice first second next
-triesAs first second next (Neither why) = neither why
+abbrev pub triesAs : List ℕ → List ℕ → ℕ → Refusal → Tried → Tries
+triesAs first second next why Once = once first next
+triesAs first second next why Twice = twice first second next
+triesAs first second next why Neither = neither why
 
-abbrev pub triesOf : TriesStruct → List ℕ → List ℕ → Tries
-triesOf t first second = triesAs (take (t .len1) first) (take (t .len2) second) (t .next) (t .tried)
+abbrev pub triesOf : TriesStruct → List ℕ → ℕ → Tries
+triesOf t run start = triesAs (logicalsAt run (t .len1) start) (logicalsAt run (t .len2) (t .second)) (t .next) (t .why) (t .tried)
+
+-- a second attempt that was taken was read where it is said to start
+abbrev pub SecondRead : Bool → List ℕ → TriesStruct → Type 0
+SecondRead command run t = t .tried ≡ Twice → Reads command run (t .second) (logicalsAt run (t .len2) (t .second))
 
 -- what stands behind a command of these bytes: the exchange's values with the replies' bytes, or its number and place
 abbrev pub outcomeAs : List ℕ → List ℕ → List ℕ → Judged → Outcome
 outcomeAs command first second (Accepted kind commands replies n) = accepted kind commands replies n command first second
 outcomeAs command first second (Refused why) = rejected why
 
-abbrev pub repliesOf : RepliesStruct → List ℕ → List ℕ → List ℕ → Outcome
-repliesOf e command first second = outcomeAs command (take (e .len1) first) (take (e .len2) second) (e .verdict)
+abbrev pub repliesOf : RepliesStruct → List ℕ → ℕ → List ℕ → Outcome
+repliesOf e run at command = outcomeAs command (logicalsAt run (e .len1) at) (logicalsAt run (e .len2) (e .second)) (e .verdict)

@@ -1,33 +1,19 @@
--- How the answers of the public functions show as the values that the definitions speak of, and what the judge does to its
--- buffers.
+-- How the judge's answer shows as the values that the definitions speak of, and what it does to its buffers.
 -- Assumes nothing.
 use mathlib.Core.Path.{_≡_}
 use Prim.Native.Nat.{ℕ}
 use mathlib.Core.List.{List, [], _∷_}
-use lib.ListN.{take}
 use Rattle.lists.specs.Starting.{starting}
 use Rattle.refusal.specs.Numbers.{Numbers, acceptedWith, refusedWith}
 use Rattle.ebus.specs.Address.{kindNumber}
-use Rattle.exchange.specs.declared.telegram.Reading.{Reading}
-use Rattle.exchange.specs.declared.telegram.Reading.the-variants.{Read, Unread}
-use Rattle.exchange.specs.declared.telegram.Telegram.{Telegram as TelegramStruct}
 use Rattle.exchange.specs.declared.judge.Judged.{Judged}
 use Rattle.exchange.specs.declared.judge.Judged.the-variants.{Accepted, Refused}
-use Rattle.exchange.specs.Telegram.{Telegram, read, unread}
 use Rattle.exchange.specs.Exchange.{Outcome, accepted, rejected}
 
 -- rule E16: the judge's answer as numbers: the kind, the attempts at command and reply, and the raw bytes read
 abbrev pub judgedNumbers : Judged → Numbers
 judgedNumbers (Accepted kind commands replies n) = acceptedWith (kindNumber kind ∷ commands ∷ replies ∷ n ∷ [])
 judgedNumbers (Refused why) = refusedWith why
-
--- a telegram by value is the first len of its bytes
-abbrev pub readAs : List ℕ → ℕ → ℕ → Reading → Telegram
-readAs telegram last next Read = read telegram last next
-readAs telegram last next (Unread why) = unread why
-
-abbrev pub telegramOf : TelegramStruct → Telegram
-telegramOf t = readAs (take (t .len) (t .bytes)) (t .last) (t .next) (t .reading)
 
 -- the answer for an outcome, and what the three buffers start with
 abbrev pub answered : Outcome → Judged

@@ -1,10 +1,8 @@
 // One attempt at a command or a reply with its acknowledge byte, and one attempt or two.
 //
-// A refusal is returned as soon as it is met. What is read goes into arrays of the judge's own.
-use crate::telegram::Reading;
-use crate::telegram::check_right;
-use crate::telegram::read_telegram;
-use crate::telegram::why_unread;
+// A refusal is returned as soon as it is met. Nothing is stored: an attempt says where it ends, and
+// its bytes are taken from the run once the exchange is accepted.
+use crate::wire::wire_check;
 use ebus::address::ExchangeKind;
 use ebus::address::kind;
 use ebus::escape::SYN;
@@ -15,18 +13,20 @@ use refusal::REPLY_NACKED;
 use refusal::RUN_ENDED;
 use refusal::Refusal;
 use refusal::SYN_EARLY;
+use telegram::read::Extent;
+use telegram::read::extent_at;
 ghost use mathlib.Core.Path.{_≡_};
-ghost use Prim.Native.Nat.{ℕ, _+_, _≤_};
-ghost use lib.ListN.{length, take};
-ghost use mathlib.Core.Bool.{_&&_};
-ghost use mathlib.Core.List.{List};
+ghost use Prim.Native.Nat.{ℕ, _+_, _<_};
+ghost use lib.ListN.{length, getD};
+ghost use mathlib.Core.Bool.{Bool, true, _&&_};
 ghost use Rattle.refusal.specs.Number.{at-place};
 ghost use Rattle.ebus.specs.Address.{kindOf};
-ghost use Rattle.exchange.specs.Telegram.{commandRoom, roomOf};
+ghost use Rattle.ebus.specs.BitByBit.{EbusTable};
+ghost use Rattle.ebus.specs.Logical.{logicalsAt};
 ghost use Rattle.exchange.specs.Exchange.{acknowledgeAt, settled, onAcknowledge, toAll, attemptAt, nackedTwice, onSecond, triesAt};
 ghost use Rattle.exchange.specs.declared.attempt.Standing.the-variants.{Failed};
 ghost use Rattle.exchange.specs.declared.attempt.Tried.the-variants.{Neither};
-ghost use Rattle.exchange.specs.Inner.{acknowledgeOf, attemptOf, triesOf};
+ghost use Rattle.exchange.specs.Inner.{Ready, ReadFrom, acknowledgeOf, attemptOf, triesOf, SecondRead};
 
 // The two acknowledge bytes.
 const ACK: u8 = 0x00;
@@ -44,29 +44,34 @@ pub(crate) enum Acknowledge {
 pub(crate) enum Standing {
     Taken,
     Nacked,
-    Failed(Refusal),
+    Failed,
 }
 
-// An attempt: how many bytes it has, and the position behind it, or the place of the FF.
+// An attempt: how many bytes it has, and the position behind it, or the place of the FF; or why it
+// failed. As in `Extent` the refusal stands beside the enum, so that it is not put together in memory.
 pub(crate) struct Attempt {
     pub len: usize,
     pub next: usize,
     pub standing: Standing,
+    pub why: Refusal,
 }
 
-// How many attempts there were, or the refusal.
+// How many attempts there were until one was taken.
 pub(crate) enum Tried {
     Once,
     Twice,
-    Neither(Refusal),
+    Neither,
 }
 
-// One attempt or two: how many bytes they have, and the position behind the last.
+// One attempt or two: how many bytes they have, where the second starts, and the position behind the
+// last; or the refusal.
 pub(crate) struct Tries {
     pub len1: usize,
+    pub second: usize,
     pub len2: usize,
     pub next: usize,
     pub tried: Tried,
+    pub why: Refusal,
 }
 
 // No acknowledge byte, for this reason.
@@ -98,58 +103,71 @@ pub(crate) fn acknowledge_at(run: &[u8], at: usize) -> Acknowledge
 }
 
 fn attempt_failed(why: Refusal) -> Attempt
-    ensures { λ r. ⌜ r ≡ record { len = 0; next = 0; standing = Failed why } ⌝ }
+    ensures { λ r. ⌜ r ≡ record { len = 0; next = 0; standing = Failed; why = why } ⌝ }
 {
     Attempt {
         len: 0,
         next: 0,
-        standing: Standing::Failed(why),
+        standing: Standing::Failed,
+        why,
     }
 }
 
-// An acknowledged attempt, or a broadcast: its check byte is judged now.
-fn settle(bytes: &[u8], len: usize, check_place: usize, next: usize) -> Attempt
-    requires { ⌜ len ≤ length (now bytes) ⌝ }
-    ensures { λ r. ⌜ attemptOf r (now (bytes .entry)) ≡ settled (take len (now (bytes .entry))) «check_place» next ⌝ }
-    ensures { λ r. ⌜ r .len ≤ len ⌝ }
+// An attempt that was acknowledged, or NACKed.
+fn attempt_ended(len: usize, next: usize, standing: Standing) -> Attempt
+    ensures { λ r. ⌜ r ≡ record { len = len; next = next; standing = standing; why = at-place 0 0 } ⌝ }
 {
-    if check_right(&bytes[..len]) {
-        return Attempt {
-            len,
-            next,
-            standing: Standing::Taken,
-        };
+    let why = Refusal {
+        number: 0,
+        place: 0,
+    };
+    Attempt {
+        len,
+        next,
+        standing,
+        why,
+    }
+}
+
+// An acknowledged attempt, or a broadcast: its check byte is judged now, by the raw bytes before it,
+// in which escapes are expanded already.
+fn settle(run: &[u8], table: &[u8; 256], start: usize, t: Extent, next: usize) -> Attempt
+    requires { ⌜ EbusTable (now table) × ReadFrom (now run) start t ⌝ }
+    ensures { λ r. ⌜ attemptOf r (now (run .entry)) start ≡ settled (logicalsAt (now (run .entry)) (t .len) start) (t .last) next ⌝ }
+    ensures { λ r. ⌜ ((command : Bool) → Ready command (now (run .entry)) start (t .len) → Ready command (now (run .entry)) start (r .len)) ⌝ }
+{
+    let last = t.last;
+    if wire_check(table, &run[start..last]) == t.value {
+        return attempt_ended(t.len, next, Standing::Taken);
     }
     attempt_failed(Refusal {
         number: CHECK_WRONG,
-        place: check_place,
+        place: last,
     })
 }
 
 // An attempt whose acknowledge byte is due next.
-fn acknowledged(run: &[u8], bytes: &[u8], len: usize, check_place: usize, at: usize) -> Attempt
-    requires { ⌜ len ≤ length (now bytes) ⌝ }
-    ensures { λ r. ⌜ attemptOf r (now (bytes .entry)) ≡ onAcknowledge (take len (now (bytes .entry))) «check_place» (acknowledgeAt (now (run .entry)) at) ⌝ }
-    ensures { λ r. ⌜ r .len ≤ len ⌝ }
+fn acknowledged(run: &[u8], table: &[u8; 256], start: usize, t: Extent) -> Attempt
+    requires { ⌜ EbusTable (now table) × ReadFrom (now run) start t ⌝ }
+    ensures { λ r. ⌜ attemptOf r (now (run .entry)) start ≡ onAcknowledge (logicalsAt (now (run .entry)) (t .len) start) (t .last) (acknowledgeAt (now (run .entry)) (t .next)) ⌝ }
+    ensures { λ r. ⌜ ((command : Bool) → Ready command (now (run .entry)) start (t .len) → Ready command (now (run .entry)) start (r .len)) ⌝ }
 {
-    let byte = acknowledge_at(run, at);
+    let byte = acknowledge_at(run, t.next);
     match byte {
-        Acknowledge::Positive(next) => settle(bytes, len, check_place, next),
-        Acknowledge::Negative(place) => Attempt {
-            len,
-            next: place,
-            standing: Standing::Nacked,
-        },
+        Acknowledge::Positive(next) => settle(run, table, start, t, next),
+        Acknowledge::Negative(place) => attempt_ended(t.len, place, Standing::Nacked),
         Acknowledge::Invalid(why) => attempt_failed(why),
     }
 }
 
-// Whether no acknowledge byte follows: this is a broadcast command.
-fn is_unanswered(command: bool, destination: u8) -> bool
-    ensures { λ r. ⌜ r ≡ (command && toAll (kindOf destination)) ⌝ }
+// Whether no acknowledge byte follows: this is a broadcast command. Neither SRC nor DST is ever
+// escaped, so that DST is the second raw byte.
+fn is_unanswered(run: &[u8], command: bool, at: usize) -> bool
+    requires { ⌜ (command ≡ true → at + 1 < length (now run)) ⌝ }
+    ensures { λ r. ⌜ r ≡ (command && toAll (kindOf (getD (now (run .entry)) (at + 1) 0))) ⌝ }
 {
     if command {
-        let k = kind(destination);
+        let k = kind(run[at + 1]);
         match k {
             ExchangeKind::Broadcast => {
                 return true;
@@ -166,30 +184,36 @@ fn is_unanswered(command: bool, destination: u8) -> bool
 }
 
 // An attempt at a command, or else at a reply, with its acknowledge byte. A broadcast has none.
-pub(crate) fn attempt_at(run: &[u8], command: bool, at: usize, out: &mut [u8]) -> Attempt
-    requires { ⌜ commandRoom ≤ length (now out) ⌝ }
-    ensures { λ r. ⌜ attemptOf r (now (out .exit)) ≡ attemptAt command (now (run .entry)) at ⌝ }
-    ensures { λ r. ⌜ r .len ≤ roomOf command ⌝ }
+//
+// The run is handed on as a part that is all of it: handed on as it came it would be copied whole
+// where its two halves were stored just before, and the copy would wait for them.
+pub(crate) fn attempt_at(run: &[u8], table: &[u8; 256], command: bool, at: usize) -> Attempt
+    requires { ⌜ EbusTable (now table) ⌝ }
+    ensures { λ r. ⌜ attemptOf r (now (run .entry)) at ≡ attemptAt command (now (run .entry)) at ⌝ }
+    ensures { λ r. ⌜ Ready command (now (run .entry)) at (r .len) ⌝ }
 {
-    let t = read_telegram(run, command, at, out);
-    let reading = t.reading;
-    let Reading::Read = reading else {
-        return attempt_failed(why_unread(reading));
-    };
-    if is_unanswered(command, out[1]) {
-        return settle(out, t.len, t.last, t.next);
+    let n = run.len();
+    let t = extent_at(&run[..n], command, at);
+    if !t.whole {
+        let why = t.why;
+        return attempt_failed(why);
     }
-    acknowledged(run, out, t.len, t.last, t.next)
+    if is_unanswered(run, command, at) {
+        return settle(run, table, at, t, t.next);
+    }
+    acknowledged(run, table, at, t)
 }
 
 fn no_tries(why: Refusal) -> Tries
-    ensures { λ r. ⌜ r ≡ record { len1 = 0; len2 = 0; next = 0; tried = Neither why } ⌝ }
+    ensures { λ r. ⌜ r ≡ record { len1 = 0; second = 0; len2 = 0; next = 0; tried = Neither; why = why } ⌝ }
 {
     Tries {
         len1: 0,
+        second: 0,
         len2: 0,
         next: 0,
-        tried: Tried::Neither(why),
+        tried: Tried::Neither,
+        why,
     }
 }
 
@@ -204,50 +228,52 @@ fn nacked_twice(command: bool) -> u8
 }
 
 // The second attempt, behind a first one of so many bytes that was NACKed.
-fn second_try(run: &[u8], command: bool, len: usize, at: usize, second: &mut [u8]) -> Tries
-    requires { ⌜ commandRoom ≤ length (now second) ⌝ }
-    ensures { λ r. ⌜ ((first : List ℕ) → triesOf r first (now (second .exit)) ≡ onSecond command (take len first) (attemptAt command (now (run .entry)) at)) ⌝ }
-    ensures { λ r. ⌜ (r .len1 ≤ len) × (r .len2 ≤ roomOf command) ⌝ }
+fn second_try(run: &[u8], table: &[u8; 256], command: bool, len: usize, at: usize) -> Tries
+    requires { ⌜ EbusTable (now table) ⌝ }
+    ensures { λ r. ⌜ ((start : ℕ) → triesOf r (now (run .entry)) start ≡ onSecond command (logicalsAt (now (run .entry)) len start) (attemptAt command (now (run .entry)) at)) ⌝ }
+    ensures { λ r. ⌜ ((start : ℕ) → Ready command (now (run .entry)) start len → Ready command (now (run .entry)) start (r .len1)) × Ready command (now (run .entry)) (r .second) (r .len2) ⌝ }
+    ensures { λ r. ⌜ SecondRead command (now (run .entry)) r ⌝ }
 {
-    let a = attempt_at(run, command, at, second);
+    let a = attempt_at(run, table, command, at);
     let standing = a.standing;
+    let why = a.why;
     match standing {
         Standing::Taken => Tries {
             len1: len,
+            second: at,
             len2: a.len,
             next: a.next,
             tried: Tried::Twice,
+            why,
         },
         Standing::Nacked => no_tries(Refusal {
             number: nacked_twice(command),
             place: a.next,
         }),
-        Standing::Failed(why) => no_tries(why),
+        Standing::Failed => no_tries(why),
     }
 }
 
-// One attempt at a command or reply, or two where the first was NACKed, each into its own output.
-pub(crate) fn tries_at(
-    run: &[u8],
-    command: bool,
-    at: usize,
-    first: &mut [u8],
-    second: &mut [u8],
-) -> Tries
-    requires { ⌜ (commandRoom ≤ length (now first)) × (commandRoom ≤ length (now second)) ⌝ }
-    ensures { λ r. ⌜ triesOf r (now (first .exit)) (now (second .exit)) ≡ triesAt command (now (run .entry)) at ⌝ }
-    ensures { λ r. ⌜ (r .len1 ≤ roomOf command) × (r .len2 ≤ roomOf command) ⌝ }
+// One attempt at a command or reply, or two where the first was NACKed.
+pub(crate) fn tries_at(run: &[u8], table: &[u8; 256], command: bool, at: usize) -> Tries
+    requires { ⌜ EbusTable (now table) ⌝ }
+    ensures { λ r. ⌜ triesOf r (now (run .entry)) at ≡ triesAt command (now (run .entry)) at ⌝ }
+    ensures { λ r. ⌜ Ready command (now (run .entry)) at (r .len1) × Ready command (now (run .entry)) (r .second) (r .len2) ⌝ }
+    ensures { λ r. ⌜ SecondRead command (now (run .entry)) r ⌝ }
 {
-    let a = attempt_at(run, command, at, first);
+    let a = attempt_at(run, table, command, at);
     let standing = a.standing;
+    let why = a.why;
     match standing {
         Standing::Taken => Tries {
             len1: a.len,
+            second: 0,
             len2: 0,
             next: a.next,
             tried: Tried::Once,
+            why,
         },
-        Standing::Nacked => second_try(run, command, a.len, a.next + 1, second),
-        Standing::Failed(why) => no_tries(why),
+        Standing::Nacked => second_try(run, table, command, a.len, a.next + 1),
+        Standing::Failed => no_tries(why),
     }
 }

@@ -1,31 +1,34 @@
 // The judge: a recorded exchange is accepted exactly when the rules accept it (E12 to E16).
 //
-// What is read goes into arrays of the judge's own, and the three buffers are written only once the
-// exchange is accepted, so that a refusal leaves them as they were.
+// The run is read twice: first to judge it, with nothing stored, and once it is accepted to put the
+// telegrams' bytes into the three buffers. So a refusal leaves them as they were.
 use crate::attempt::Tried;
 use crate::attempt::tries_at;
-use crate::telegram::COMMAND_ROOM;
-use crate::telegram::REPLY_ROOM;
+use crate::wire::copy_logical;
 use ebus::address::ExchangeKind;
 use ebus::address::kind;
+use ebus::check::ebus_table;
 use ebus::escape::SYN;
-use lists::put;
 use refusal::BUS_ERROR;
 use refusal::OUTPUT_SHORT;
 use refusal::RUN_ENDED;
 use refusal::Refusal;
+use telegram::read::COMMAND_ROOM;
+use telegram::read::REPLY_ROOM;
 ghost use mathlib.Core.Path.{_≡_};
 ghost use mathlib.Core.Bool.{true, false};
 ghost use mathlib.Mathlib.Logic.Function.Defs.{id};
 ghost use mathlib.Core.List.{List, []};
 ghost use Prim.Native.Nat.{ℕ, _≤_};
-ghost use lib.ListN.{length, getD, take};
+ghost use lib.ListN.{length};
 ghost use Rattle.refusal.specs.Number.{outputShort, at-place};
 ghost use Rattle.ebus.specs.Address.{kindOf};
+ghost use Rattle.ebus.specs.BitByBit.{EbusTable};
+ghost use Rattle.ebus.specs.Logical.{logicalsAt};
+ghost use Rattle.telegram.specs.Telegram.{replyRoom};
 ghost use Rattle.exchange.specs.Exchange.{synAt, rejected, onEnd, onReply, onKind, triesAt, exchangeAt, rooms, judged};
-ghost use Rattle.exchange.specs.Telegram.{commandRoom, replyRoom};
 ghost use Rattle.exchange.specs.View.{answered, Judges};
-ghost use Rattle.exchange.specs.Inner.{repliesOf};
+ghost use Rattle.exchange.specs.Inner.{Ready, repliesOf};
 
 // What a recorded exchange is: its kind, the attempts at command and reply, and the raw bytes read,
 // SYN included; or why it is refused.
@@ -34,9 +37,11 @@ pub enum Judged {
     Refused(Refusal),
 }
 
-// Behind an accepted command: how many bytes the attempts at the reply have, and the verdict.
+// Behind an accepted command: how many bytes the attempts at the reply have, where the second starts,
+// and the verdict.
 struct Replies {
     pub len1: usize,
+    pub second: usize,
     pub len2: usize,
     pub verdict: Judged,
 }
@@ -62,37 +67,42 @@ fn verdict_at(run: &[u8], kind: ExchangeKind, commands: u8, replies: u8, at: usi
 
 // Behind a command that needs no reply.
 fn without_reply(run: &[u8], kind: ExchangeKind, commands: u8, at: usize) -> Replies
-    ensures { λ r. ⌜ ((command first second : List ℕ) → repliesOf r command first second ≡ onEnd kind commands 0 command [] [] (synAt (now (run .entry)) at)) ⌝ }
-    ensures { λ r. ⌜ (r .len1 ≤ replyRoom) × (r .len2 ≤ replyRoom) ⌝ }
+    ensures { λ r. ⌜ ((command : List ℕ) → repliesOf r (now (run .entry)) at command ≡ onEnd kind commands 0 command [] [] (synAt (now (run .entry)) at)) ⌝ }
+    ensures { λ r. ⌜ Ready false (now (run .entry)) at (r .len1) × Ready false (now (run .entry)) (r .second) (r .len2) ⌝ }
 {
     Replies {
         len1: 0,
+        second: 0,
         len2: 0,
         verdict: verdict_at(run, kind, commands, 0, at),
     }
 }
 
-// Behind a command whose reply is due: the attempts at it, each into its own output.
-fn with_reply(run: &[u8], commands: u8, at: usize, first: &mut [u8], second: &mut [u8]) -> Replies
-    requires { ⌜ (commandRoom ≤ length (now first)) × (commandRoom ≤ length (now second)) ⌝ }
-    ensures { λ r. ⌜ ((command : List ℕ) → repliesOf r command (now (first .exit)) (now (second .exit)) ≡ onReply commands command (now (run .entry)) (triesAt false (now (run .entry)) at)) ⌝ }
-    ensures { λ r. ⌜ (r .len1 ≤ replyRoom) × (r .len2 ≤ replyRoom) ⌝ }
+// Behind a command whose reply is due: the attempts at it.
+fn with_reply(run: &[u8], table: &[u8; 256], commands: u8, at: usize) -> Replies
+    requires { ⌜ EbusTable (now table) ⌝ }
+    ensures { λ r. ⌜ ((command : List ℕ) → repliesOf r (now (run .entry)) at command ≡ onReply commands command (now (run .entry)) (triesAt false (now (run .entry)) at)) ⌝ }
+    ensures { λ r. ⌜ Ready false (now (run .entry)) at (r .len1) × Ready false (now (run .entry)) (r .second) (r .len2) ⌝ }
 {
-    let t = tries_at(run, false, at, first, second);
+    let t = tries_at(run, table, false, at);
     let tried = t.tried;
+    let why = t.why;
     match tried {
         Tried::Once => Replies {
             len1: t.len1,
+            second: 0,
             len2: 0,
             verdict: verdict_at(run, ExchangeKind::InitiatorTarget, commands, 1, t.next),
         },
         Tried::Twice => Replies {
             len1: t.len1,
+            second: t.second,
             len2: t.len2,
             verdict: verdict_at(run, ExchangeKind::InitiatorTarget, commands, 2, t.next),
         },
-        Tried::Neither(why) => Replies {
+        Tried::Neither => Replies {
             len1: 0,
+            second: 0,
             len2: 0,
             verdict: Judged::Refused(why),
         },
@@ -100,17 +110,10 @@ fn with_reply(run: &[u8], commands: u8, at: usize, first: &mut [u8], second: &mu
 }
 
 // Behind an accepted command, by its destination.
-fn after_command(
-    run: &[u8],
-    commands: u8,
-    destination: u8,
-    at: usize,
-    first: &mut [u8],
-    second: &mut [u8],
-) -> Replies
-    requires { ⌜ (commandRoom ≤ length (now first)) × (commandRoom ≤ length (now second)) ⌝ }
-    ensures { λ r. ⌜ ((command : List ℕ) → repliesOf r command (now (first .exit)) (now (second .exit)) ≡ onKind commands command (now (run .entry)) at (kindOf destination)) ⌝ }
-    ensures { λ r. ⌜ (r .len1 ≤ replyRoom) × (r .len2 ≤ replyRoom) ⌝ }
+fn after_command(run: &[u8], table: &[u8; 256], commands: u8, destination: u8, at: usize) -> Replies
+    requires { ⌜ EbusTable (now table) ⌝ }
+    ensures { λ r. ⌜ ((command : List ℕ) → repliesOf r (now (run .entry)) at command ≡ onKind commands command (now (run .entry)) at (kindOf destination)) ⌝ }
+    ensures { λ r. ⌜ Ready false (now (run .entry)) at (r .len1) × Ready false (now (run .entry)) (r .second) (r .len2) ⌝ }
 {
     let k = kind(destination);
     match k {
@@ -118,36 +121,31 @@ fn after_command(
         ExchangeKind::InitiatorInitiator => {
             without_reply(run, ExchangeKind::InitiatorInitiator, commands, at)
         }
-        ExchangeKind::InitiatorTarget => with_reply(run, commands, at, first, second),
+        ExchangeKind::InitiatorTarget => with_reply(run, table, commands, at),
     }
 }
 
-// What follows an accepted command, which is the first len of these bytes, and the three buffers.
+// The verdict behind an accepted command, and the three buffers, which are filled where it accepts.
 fn finish(
     run: &[u8],
-    commands: u8,
-    bytes: &[u8],
+    start: usize,
     len: usize,
     at: usize,
+    e: Replies,
     command: &mut [u8],
     reply_1: &mut [u8],
     reply_2: &mut [u8],
 ) -> Judged
-    requires { ⌜ (2 ≤ length (now bytes)) × (len ≤ length (now bytes)) × (len ≤ length (now command)) × (replyRoom ≤ length (now «reply_1»)) × (replyRoom ≤ length (now «reply_2»)) ⌝ }
-    ensures { λ r. ⌜ Judges id (onKind commands (take len (now (bytes .entry))) (now (run .entry)) at (kindOf (getD (now (bytes .entry)) 1 0))) r (now (command .entry)) (now (command .exit)) (now («reply_1» .entry)) (now («reply_1» .exit)) (now («reply_2» .entry)) (now («reply_2» .exit)) ⌝ }
+    requires { ⌜ Ready true (now run) start len × Ready false (now run) at (e .len1) × Ready false (now run) (e .second) (e .len2) × (len ≤ length (now command)) × (replyRoom ≤ length (now «reply_1»)) × (replyRoom ≤ length (now «reply_2»)) ⌝ }
+    ensures { λ r. ⌜ Judges id (repliesOf e (now (run .entry)) at (logicalsAt (now (run .entry)) len start)) r (now (command .entry)) (now (command .exit)) (now («reply_1» .entry)) (now («reply_1» .exit)) (now («reply_2» .entry)) (now («reply_2» .exit)) ⌝ }
 {
-    let mut first = [0u8; COMMAND_ROOM];
-    let mut second = [0u8; COMMAND_ROOM];
-    let e = after_command(run, commands, bytes[1], at, &mut first, &mut second);
     let verdict = e.verdict;
     let Judged::Accepted(_, _, _, _) = verdict else {
         return verdict;
     };
-    let n1 = e.len1;
-    let n2 = e.len2;
-    put(&bytes[..len], command);
-    put(&first[..n1], reply_1);
-    put(&second[..n2], reply_2);
+    copy_logical(run, start, len, command);
+    copy_logical(run, at, e.len1, reply_1);
+    copy_logical(run, e.second, e.len2, reply_2);
     verdict
 }
 
@@ -177,7 +175,8 @@ fn have_room(command: usize, first: usize, second: usize) -> bool
     true
 }
 
-// Judges the exchange whose command starts at a position, into buffers that have room.
+// Judges the exchange whose command starts at a position, into buffers that have room. Neither SRC
+// nor DST is ever escaped, so that DST is the command's second raw byte.
 fn judge_at(
     run: &[u8],
     at: usize,
@@ -188,14 +187,21 @@ fn judge_at(
     requires { ⌜ rooms (length (now command)) (length (now «reply_1»)) (length (now «reply_2»)) ≡ true ⌝ }
     ensures { λ r. ⌜ Judges id (exchangeAt (now (run .entry)) at) r (now (command .entry)) (now (command .exit)) (now («reply_1» .entry)) (now («reply_1» .exit)) (now («reply_2» .entry)) (now («reply_2» .exit)) ⌝ }
 {
-    let mut once = [0u8; COMMAND_ROOM];
-    let mut twice = [0u8; COMMAND_ROOM];
-    let t = tries_at(run, true, at, &mut once, &mut twice);
+    let table = ebus_table();
+    let t = tries_at(run, &table, true, at);
     let tried = t.tried;
+    let why = t.why;
     match tried {
-        Tried::Once => finish(run, 1, &once, t.len1, t.next, command, reply_1, reply_2),
-        Tried::Twice => finish(run, 2, &twice, t.len2, t.next, command, reply_1, reply_2),
-        Tried::Neither(why) => Judged::Refused(why),
+        Tried::Once => {
+            let e = after_command(run, &table, 1, run[at + 1], t.next);
+            finish(run, at, t.len1, t.next, e, command, reply_1, reply_2)
+        }
+        Tried::Twice => {
+            let second = t.second;
+            let e = after_command(run, &table, 2, run[second + 1], t.next);
+            finish(run, second, t.len2, t.next, e, command, reply_1, reply_2)
+        }
+        Tried::Neither => Judged::Refused(why),
     }
 }
 

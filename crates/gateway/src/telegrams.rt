@@ -5,49 +5,30 @@ use boundary::MoorTelegram;
 use boundary::MoorWritten;
 use boundary::judged_for_c;
 use boundary::written_for_c;
-use exchange::telegram::Reading;
-use exchange::telegram::Telegram;
-use lists::put;
+use telegram::read::Telegram;
 ghost use mathlib.Core.Path.{_≡_};
 ghost use lib.ListN.{length};
-ghost use Prim.Native.Nat.{_≤_};
 ghost use Rattle.refusal.specs.Output.{fitting, Wrote};
-ghost use Rattle.exchange.specs.Telegram.{telegramAt, checkRight, commandOutput, replyOutput};
-ghost use Rattle.exchange.specs.View.{telegramOf, Judges};
+ghost use Rattle.telegram.specs.Telegram.{telegramAt, checkRight, commandOutput, replyOutput};
+ghost use Rattle.exchange.specs.View.{Judges};
 ghost use Rattle.exchange.specs.Exchange.{judged};
 ghost use Rattle.boundary.specs.ForC.{telegramForC, writtenForC, judgedForC};
-ghost use Rattle.exchange.specs.Data.{emptyStart, partIn, partOf};
-ghost use Rattle.gateway.specs.Lent.{partForC};
+ghost use Rattle.telegram.specs.Data.{emptyStart, partIn, partOf};
+ghost use Rattle.gateway.specs.Lent.{byValueForC, partForC};
 
-// A telegram as far as it was read, as an answer.
+// A telegram by value, as an answer.
 fn telegram_for_c(x: Telegram) -> MoorTelegram
-    requires { ⌜ x .len ≤ 22 ⌝ }
-    ensures { λ r. ⌜ r ≡ telegramForC (telegramOf x) ⌝ }
+    ensures { λ r. ⌜ r ≡ byValueForC x ⌝ }
 {
-    let reading = x.reading;
-    match reading {
-        Reading::Read => {
-            let read = x.bytes;
-            let length = x.len;
-            let mut bytes = [0u8; 22];
-            put(&read[..length], &mut bytes);
-            MoorTelegram {
-                number: 0,
-                place: 0,
-                length,
-                last: x.last,
-                next: x.next,
-                bytes,
-            }
-        }
-        Reading::Unread(why) => MoorTelegram {
-            number: why.number,
-            place: why.place,
-            length: 0,
-            last: 0,
-            next: 0,
-            bytes: [0; 22],
-        },
+    let bytes = x.bytes;
+    let why = x.why;
+    MoorTelegram {
+        number: why.number,
+        place: why.place,
+        length: x.len,
+        last: x.last,
+        next: x.next,
+        bytes,
     }
 }
 
@@ -56,7 +37,7 @@ fn telegram_for_c(x: Telegram) -> MoorTelegram
 pub extern "C" fn moor_telegram_at(run: &[u8], command: bool, at: usize) -> MoorTelegram
     ensures { λ r. ⌜ r ≡ telegramForC (telegramAt command (now (run .entry)) at) ⌝ }
 {
-    telegram_for_c(exchange::telegram::telegram_at(run, command, at))
+    telegram_for_c(telegram::read::telegram_at(run, command, at))
 }
 
 // Whether the last byte is the check byte of those before it.
@@ -64,7 +45,7 @@ pub extern "C" fn moor_telegram_at(run: &[u8], command: bool, at: usize) -> Moor
 pub extern "C" fn moor_check_right(telegram: &[u8]) -> bool
     ensures { λ r. ⌜ r ≡ checkRight (now (telegram .entry)) ⌝ }
 {
-    exchange::telegram::check_right(telegram)
+    telegram::read::check_right(telegram)
 }
 
 // Writes a command: 6, 7, 8, then 1 if its exact wire length exceeds the output.
@@ -79,7 +60,7 @@ pub extern "C" fn moor_write_command(
 ) -> MoorWritten
     ensures { λ r. ⌜ Wrote writtenForC (fitting (length (now (out .entry))) (commandOutput source destination primary secondary (now (payload .entry)))) r (now (out .entry)) (now (out .exit)) ⌝ }
 {
-    written_for_c(exchange::write::write_command(
+    written_for_c(telegram::write::write_command(
         source,
         destination,
         primary,
@@ -94,7 +75,7 @@ pub extern "C" fn moor_write_command(
 pub extern "C" fn moor_write_reply(payload: &[u8], out: &mut [u8]) -> MoorWritten
     ensures { λ r. ⌜ Wrote writtenForC (fitting (length (now (out .entry))) (replyOutput (now (payload .entry)))) r (now (out .entry)) (now (out .exit)) ⌝ }
 {
-    written_for_c(exchange::write::write_reply(payload, out))
+    written_for_c(telegram::write::write_reply(payload, out))
 }
 
 // Judges a recorded run from its start into buffers of at least 22, 18 and 18 bytes.
@@ -125,7 +106,7 @@ fn empty_start() -> MoorPart
 fn part_in(attempt: u8, buffer: &[u8]) -> MoorPart
     ensures { λ r. ⌜ r ≡ partForC (partIn attempt (now (buffer .entry))) ⌝ }
 {
-    if exchange::reply::holds_data(buffer) {
+    if telegram::reply::holds_data(buffer) {
         return MoorPart {
             attempt,
             start: 1,

@@ -8,7 +8,7 @@ use native.Mathlib.Nat.{add-zero}
 use native.Mathlib.Numerals.{add-one}
 use native.Mathlib.Omega.{arith}
 use lib.ListN.{length, getD, take, drop, set, replicate, length-drop, length-append, drop-of-length-le}
-use lib.Seq.{drop-cons, drop-drop, getD-drop, take-suc, take-at, take-length, take-all, take-append-add, take-append-seam, set-at, length-take-le}
+use lib.Seq.{drop-cons, drop-drop, getD-drop, take-suc, take-at, take-length, take-all, take-append-add, take-append-seam, take-suc-set, set-at, length-take-le}
 use Rattle.lists.specs.Starting.{starting}
 
 -- ---- reading
@@ -39,6 +39,10 @@ written-on xs old a n e h =
     ∙ set-at xs (getD old (length xs) 0) (drop (length xs + 1) old) a n e
     ∙ sym (append-assoc xs (a ∷ []) (drop (length xs + 1) old))
     ∙ ap (λ (k : ℕ). (xs ++ a ∷ []) ++ drop k old) (sym size)
+
+-- a value stored behind the first n of a list
+pub stored-next : (l : List ℕ) (n a : ℕ) → n < length l → take (n + 1) (set l n a) ≡ take n l ++ a ∷ []
+stored-next l n a h = ap (λ (k : ℕ). take k (set l n a)) (add-one n) ∙ take-suc-set l n a h
 
 -- the first i of a list, and the first i + 1
 pub first-more : (xs : List ℕ) (i : ℕ) → i < length xs → take i xs ++ getD xs i 0 ∷ [] ≡ take (i + 1) xs

@@ -1,7 +1,7 @@
 // What the tool keeps from line to line, and what a command leaves: the desk after it.
 use crate::fault;
 use crate::fault::Fault;
-use crate::fault::What;
+use crate::say::Page;
 
 // Every output has room for what a line of 8,192 bytes expands to.
 pub(crate) const FULL: usize = 16384;
@@ -92,12 +92,12 @@ impl Desk {
     }
 
     // Says what was wrong with the line.
-    pub(crate) fn wrong(self, page: &mut [u8], why: Fault) -> Desk {
+    pub(crate) fn wrong(self, page: &mut Page, why: Fault) -> Desk {
         self.with_used(fault::say_fault(why, self.line, page, self.used))
     }
 
     // Says what was wrong at this place of the line.
-    pub(crate) fn wrong_at(self, page: &mut [u8], what: What, at: usize) -> Desk {
+    pub(crate) fn wrong_at(self, page: &mut Page, what: u8, at: usize) -> Desk {
         self.wrong(page, fault::fault_at(what, at))
     }
 }

@@ -8,7 +8,7 @@ use crate::desk::MOST_ROOM;
 use crate::desk::MOST_ROWS;
 use crate::desk::Table;
 use crate::fault::Fault;
-use crate::fault::What;
+use crate::fault::TABLE_FULL;
 use crate::hex;
 use crate::hex::BytesRead;
 use crate::number::NumberRead;
@@ -20,6 +20,7 @@ use crate::part::lent_serials;
 use crate::part::serials_of;
 use crate::part::start_of;
 use crate::say;
+use crate::say::Page;
 use devices::Response;
 use devices::Scanned;
 
@@ -54,7 +55,7 @@ fn read_row(line: &[u8], at: usize) -> RowRead {
     }
 }
 
-pub(crate) fn device(line: &[u8], at: usize, d: Desk, page: &mut [u8]) -> Desk {
+pub(crate) fn device(line: &[u8], at: usize, d: Desk, page: &mut Page) -> Desk {
     let read = read_row(line, at);
     match read {
         RowRead::Wrong(why) => d.wrong(page, why),
@@ -66,7 +67,7 @@ pub(crate) fn device(line: &[u8], at: usize, d: Desk, page: &mut [u8]) -> Desk {
             let table = d.table;
             let row = table.rows;
             if MOST_ROWS <= row {
-                return d.wrong_at(page, What::TableFull, at);
+                return d.wrong_at(page, TABLE_FULL, at);
             }
             let mut serials = table.serials;
             let mut addresses = table.addresses;
@@ -85,7 +86,7 @@ pub(crate) fn device(line: &[u8], at: usize, d: Desk, page: &mut [u8]) -> Desk {
     }
 }
 
-pub(crate) fn show(d: Desk, page: &mut [u8]) -> Desk {
+pub(crate) fn show(d: Desk, page: &mut Page) -> Desk {
     let table = d.table;
     let rows = table.rows;
     let serials = table.serials;
@@ -94,16 +95,15 @@ pub(crate) fn show(d: Desk, page: &mut [u8]) -> Desk {
     let s = serials_of(&serials, rows);
     let a = start_of(&addresses, rows);
     let m = start_of(&marks, rows);
-    let n = say::decimal(page, d.used, rows as u64);
-    let head = say_valid(table::valid(s, a, m), page, n);
+    let head = say_valid(rows, table::valid(s, a, m), page, d.used);
     d.with_used(say_rows(rows, s, a, m, page, head))
 }
 
-fn say_valid(valid: bool, page: &mut [u8], used: usize) -> usize {
+fn say_valid(rows: usize, valid: bool, page: &mut Page, used: usize) -> usize {
     if valid {
-        return say::text(page, used, b" devices, valid\n");
+        return say::filled(page, used, b"# devices, valid\n", &[rows as u64]);
     }
-    say::text(page, used, b" devices, not valid\n")
+    say::filled(page, used, b"# devices, not valid\n", &[rows as u64])
 }
 
 // The first n rows.
@@ -112,7 +112,7 @@ fn say_rows(
     serials: &[u32],
     addresses: &[u8],
     marks: &[u8],
-    page: &mut [u8],
+    page: &mut Page,
     used: usize,
 ) -> usize {
     let mut at = used;
@@ -130,7 +130,7 @@ fn say_row(
     serials: &[u32],
     addresses: &[u8],
     marks: &[u8],
-    page: &mut [u8],
+    page: &mut Page,
     used: usize,
 ) -> usize {
     if serials.len() <= i {
@@ -145,18 +145,14 @@ fn say_row(
     say_marked(serials[i], addresses[i], marks[i], page, used)
 }
 
-fn say_found(serial: u32, address: u8, page: &mut [u8], used: usize) -> usize {
-    let a = say::text(page, used, b"  found ");
-    let b = say::device(page, a, serial, address);
-    say::text(page, b, b"\n")
+fn say_found(serial: u32, address: u8, page: &mut Page, used: usize) -> usize {
+    let numbers = [serial as u64, address as u64];
+    say::filled(page, used, b"  found ^ at $\n", &numbers)
 }
 
-fn say_marked(serial: u32, address: u8, mark: u8, page: &mut [u8], used: usize) -> usize {
-    let a = say::text(page, used, b"  ");
-    let b = say::device(page, a, serial, address);
-    let c = say::text(page, b, b" mark ");
-    let d = say::decimal(page, c, mark as u64);
-    say::text(page, d, b"\n")
+fn say_marked(serial: u32, address: u8, mark: u8, page: &mut Page, used: usize) -> usize {
+    let numbers = [serial as u64, address as u64, mark as u64];
+    say::filled(page, used, b"  ^ at $ mark #\n", &numbers)
 }
 
 // ---- requests
@@ -168,7 +164,11 @@ pub(crate) enum Asked {
     Frame,
 }
 
-pub(crate) fn ask(asked: Asked, frame: &[u8], d: Desk, page: &mut [u8]) -> Desk {
+pub(crate) fn request(asked: Asked, d: Desk, page: &mut Page) -> Desk {
+    ask(asked, b"", d, page)
+}
+
+fn ask(asked: Asked, frame: &[u8], d: Desk, page: &mut Page) -> Desk {
     let mut answer = [FILL; FULL];
     let table = d.table;
     let rows = table.rows;
@@ -187,7 +187,7 @@ pub(crate) fn ask(asked: Asked, frame: &[u8], d: Desk, page: &mut [u8]) -> Desk 
     d.with_table(table.with_marks(marks)).with_used(used)
 }
 
-pub(crate) fn offer(line: &[u8], at: usize, d: Desk, page: &mut [u8]) -> Desk {
+pub(crate) fn offer(line: &[u8], at: usize, d: Desk, page: &mut Page) -> Desk {
     let mut store = [0u8; hex::MOST];
     let read = hex::bytes(line, at, &mut store);
     match read {
@@ -211,13 +211,9 @@ fn response(
     }
 }
 
-fn say_answer(a: Response, answer: &[u8], page: &mut [u8], used: usize) -> usize {
+fn say_answer(a: Response, answer: &[u8], page: &mut Page, used: usize) -> usize {
     match a {
-        Response::Answered(n) => {
-            let b = say::text(page, used, b"answer");
-            let c = say::bytes(page, b, start_of(answer, n));
-            say::text(page, c, b"\n")
-        }
+        Response::Answered(n) => say::named(page, used, b"answer", start_of(answer, n)),
         Response::Silent => say::text(page, used, b"silence\n"),
         Response::Refused(why) => say::refused(page, used, why),
     }
@@ -225,7 +221,7 @@ fn say_answer(a: Response, answer: &[u8], page: &mut [u8], used: usize) -> usize
 
 // ---- a whole scan
 
-pub(crate) fn scan(line: &[u8], at: usize, d: Desk, page: &mut [u8]) -> Desk {
+pub(crate) fn scan(line: &[u8], at: usize, d: Desk, page: &mut Page) -> Desk {
     let read = last_number(line, at, u64::MAX);
     match read {
         NumberRead::Wrong(why) => d.wrong(page, why),
@@ -233,7 +229,7 @@ pub(crate) fn scan(line: &[u8], at: usize, d: Desk, page: &mut [u8]) -> Desk {
     }
 }
 
-fn scanned(cap: usize, d: Desk, page: &mut [u8]) -> Desk {
+fn scanned(cap: usize, d: Desk, page: &mut Page) -> Desk {
     let mut found_serials = [0x5A5A5A5Au32; MOST_ROOM];
     let mut found_addresses = [FILL; MOST_ROOM];
     let table = d.table;
@@ -255,24 +251,22 @@ fn scanned(cap: usize, d: Desk, page: &mut [u8]) -> Desk {
 
 // A complete scan has heard one device fewer than it sent requests: the last was answered by the
 // end. An unfinished one has heard a device at each request.
-fn say_scan(s: Scanned, serials: &[u32], addresses: &[u8], page: &mut [u8], used: usize) -> usize {
+fn say_scan(s: Scanned, serials: &[u32], addresses: &[u8], page: &mut Page, used: usize) -> usize {
     match s {
         Scanned::Complete(n) => {
-            let a = say_requests(b"Complete, ", n, page, used);
+            let a = say_requests(b"Complete, # requests\n", n, page, used);
             let heard = if n == 0 { 0 } else { n - 1 };
             say_rows(heard, serials, addresses, b"", page, a)
         }
-        Scanned::Nobody(n) => say_requests(b"Nobody, ", n, page, used),
+        Scanned::Nobody(n) => say_requests(b"Nobody, # requests\n", n, page, used),
         Scanned::Unfinished(n) => {
-            let a = say_requests(b"Unfinished, ", n, page, used);
+            let a = say_requests(b"Unfinished, # requests\n", n, page, used);
             say_rows(n, serials, addresses, b"", page, a)
         }
         Scanned::Refused(why) => say::refused(page, used, why),
     }
 }
 
-fn say_requests(ended: &[u8], n: usize, page: &mut [u8], used: usize) -> usize {
-    let a = say::text(page, used, ended);
-    let b = say::decimal(page, a, n as u64);
-    say::text(page, b, b" requests\n")
+fn say_requests(ended: &[u8], n: usize, page: &mut Page, used: usize) -> usize {
+    say::filled(page, used, ended, &[n as u64])
 }

@@ -12,36 +12,35 @@ use crate::number::fault_of;
 use crate::part::lent;
 use crate::part::start_of;
 use crate::say;
+use crate::say::Page;
 use crate::word;
 use ebus::address::ExchangeKind;
 use exchange::judge::Judged;
 
-pub(crate) fn check(input: &[u8], page: &mut [u8], used: usize) -> usize {
+pub(crate) fn check(input: &[u8], page: &mut Page, used: usize) -> usize {
     let byte = ebus::check::ebus_check(input);
-    let a = say::text(page, used, b"check ");
-    let b = say::hex(page, a, byte);
-    say::text(page, b, b"\n")
+    say::filled(page, used, b"check $\n", &[byte as u64])
 }
 
-pub(crate) fn expand(input: &[u8], room: usize, page: &mut [u8], used: usize) -> usize {
+pub(crate) fn expand(input: &[u8], room: usize, page: &mut Page, used: usize) -> usize {
     let mut out = [FILL; FULL];
     let w = ebus::escape::expand(input, lent(&mut out, room));
     say::written(page, used, w, &out)
 }
 
-pub(crate) fn undo(input: &[u8], room: usize, page: &mut [u8], used: usize) -> usize {
+pub(crate) fn undo(input: &[u8], room: usize, page: &mut Page, used: usize) -> usize {
     let mut out = [FILL; FULL];
     let w = ebus::escape::undo(input, lent(&mut out, room));
     say::written(page, used, w, &out)
 }
 
-pub(crate) fn write_reply(input: &[u8], room: usize, page: &mut [u8], used: usize) -> usize {
+pub(crate) fn write_reply(input: &[u8], room: usize, page: &mut Page, used: usize) -> usize {
     let mut out = [FILL; FULL];
-    let w = exchange::write::write_reply(input, lent(&mut out, room));
+    let w = telegram::write::write_reply(input, lent(&mut out, room));
     say::written(page, used, w, &out)
 }
 
-pub(crate) fn kind(line: &[u8], at: usize, d: Desk, page: &mut [u8]) -> Desk {
+pub(crate) fn kind(line: &[u8], at: usize, d: Desk, page: &mut Page) -> Desk {
     let read = digits(line, at, 2);
     match read {
         NumberRead::Wrong(why) => d.wrong(page, why),
@@ -51,12 +50,12 @@ pub(crate) fn kind(line: &[u8], at: usize, d: Desk, page: &mut [u8]) -> Desk {
             }
             let found = ebus::address::kind((destination % 256) as u8);
             let a = say_kind(found, page, d.used);
-            d.with_used(say::text(page, a, b"\n"))
+            d.with_used(say::byte(page, a, b'\n'))
         }
     }
 }
 
-fn say_kind(k: ExchangeKind, page: &mut [u8], used: usize) -> usize {
+fn say_kind(k: ExchangeKind, page: &mut Page, used: usize) -> usize {
     match k {
         ExchangeKind::Broadcast => say::text(page, used, b"broadcast"),
         ExchangeKind::InitiatorInitiator => say::text(page, used, b"initiator/initiator"),
@@ -66,7 +65,7 @@ fn say_kind(k: ExchangeKind, page: &mut [u8], used: usize) -> usize {
 
 // ---- the judge
 
-pub(crate) fn judge(run: &[u8], room: usize, page: &mut [u8], used: usize) -> usize {
+pub(crate) fn judge(run: &[u8], room: usize, page: &mut Page, used: usize) -> usize {
     let mut command = [FILL; FULL];
     let mut first = [FILL; FULL];
     let mut second = [FILL; FULL];
@@ -76,18 +75,30 @@ pub(crate) fn judge(run: &[u8], room: usize, page: &mut [u8], used: usize) -> us
         lent(&mut first, room),
         lent(&mut second, room),
     );
+    say_judged(
+        judged,
+        start_of(&command, room),
+        start_of(&first, room),
+        start_of(&second, room),
+        page,
+        used,
+    )
+}
+
+fn say_judged<'a>(
+    judged: Judged,
+    command: &'a [u8],
+    first: &'a [u8],
+    second: &'a [u8],
+    page: &mut Page,
+    used: usize,
+) -> usize {
     match judged {
         Judged::Refused(why) => say::refused(page, used, why),
         Judged::Accepted(kind, commands, replies, bytes) => {
             let a = accepted(kind, commands, replies, bytes, page, used);
-            let b = telegram(b"  command", start_of(&command, room), 4, page, a);
-            say_replies(
-                start_of(&first, room),
-                start_of(&second, room),
-                replies,
-                page,
-                b,
-            )
+            let b = telegram(b"  command", command, 4, page, a);
+            say_replies(first, second, replies, page, b)
         }
     }
 }
@@ -98,22 +109,13 @@ fn accepted(
     commands: u8,
     replies: u8,
     bytes: usize,
-    page: &mut [u8],
+    page: &mut Page,
     used: usize,
 ) -> usize {
+    let numbers = [commands as u64, replies as u64, bytes as u64];
     let a = say::text(page, used, b"accepted ");
     let b = say_kind(kind, page, a);
-    let c = say::text(page, b, b", attempts ");
-    let d = say_attempts(commands, replies, page, c);
-    let e = say::text(page, d, b", ");
-    let f = say::decimal(page, e, bytes as u64);
-    say::text(page, f, b" bytes read\n")
-}
-
-fn say_attempts(commands: u8, replies: u8, page: &mut [u8], used: usize) -> usize {
-    let a = say::decimal(page, used, commands as u64);
-    let b = say::text(page, a, b" and ");
-    say::decimal(page, b, replies as u64)
+    say::filled(page, b, b", attempts # and #, # bytes read\n", &numbers)
 }
 
 // How long the telegram at the start of a buffer is, whose LEN stands at this place: LEN, its data
@@ -126,11 +128,9 @@ fn telegram_length(buffer: &[u8], at: usize) -> usize {
 }
 
 // A line with the telegram at the start of a buffer.
-fn telegram(name: &[u8], buffer: &[u8], at: usize, page: &mut [u8], used: usize) -> usize {
+fn telegram(name: &[u8], buffer: &[u8], at: usize, page: &mut Page, used: usize) -> usize {
     let n = telegram_length(buffer, at);
-    let a = say::text(page, used, name);
-    let b = say::bytes(page, a, start_of(buffer, n));
-    say::text(page, b, b"\n")
+    say::named(page, used, name, start_of(buffer, n))
 }
 
 // The replies that happened, and the data of the one that was acknowledged.
@@ -138,7 +138,7 @@ fn say_replies<'a>(
     first: &'a [u8],
     second: &'a [u8],
     replies: u8,
-    page: &mut [u8],
+    page: &mut Page,
     used: usize,
 ) -> usize {
     if replies < 1 {
@@ -156,25 +156,26 @@ fn say_data<'a>(
     first: &'a [u8],
     second: &'a [u8],
     replies: u8,
-    page: &mut [u8],
+    page: &mut Page,
     used: usize,
 ) -> usize {
-    let a = say::text(page, used, b"  data");
-    let b = say::bytes(page, a, exchange::reply::reply_data(first, second, replies));
-    say::text(page, b, b"\n")
+    let data = telegram::reply::reply_data(first, second, replies);
+    say::named(page, used, b"  data", data)
 }
 
 // ---- writing a command
 
-// The four bytes before LEN, and where the data begins.
+// The four bytes before LEN.
+struct Head {
+    source: u8,
+    destination: u8,
+    primary: u8,
+    secondary: u8,
+}
+
+// A head, and where the data begins, or what was wrong.
 enum HeadRead {
-    Head {
-        source: u8,
-        destination: u8,
-        primary: u8,
-        secondary: u8,
-        data_at: usize,
-    },
+    Head(Head, usize),
     Wrong(Fault),
 }
 
@@ -195,43 +196,44 @@ fn read_head(line: &[u8], at: usize) -> HeadRead {
     let NumberRead::Number(secondary, data_at) = fourth else {
         return HeadRead::Wrong(fault_of(fourth));
     };
-    HeadRead::Head {
+    let head = Head {
         source: (source % 256) as u8,
         destination: (destination % 256) as u8,
         primary: (primary % 256) as u8,
         secondary: (secondary % 256) as u8,
-        data_at,
+    };
+    HeadRead::Head(head, data_at)
+}
+
+pub(crate) fn write_command(line: &[u8], at: usize, d: Desk, page: &mut Page) -> Desk {
+    let read = read_head(line, at);
+    match read {
+        HeadRead::Wrong(why) => d.wrong(page, why),
+        HeadRead::Head(head, data_at) => write_behind(head, line, data_at, d, page),
     }
 }
 
-pub(crate) fn write_command(line: &[u8], at: usize, d: Desk, page: &mut [u8]) -> Desk {
-    let head = read_head(line, at);
-    match head {
-        HeadRead::Wrong(why) => d.wrong(page, why),
-        HeadRead::Head {
-            source,
-            destination,
-            primary,
-            secondary,
-            data_at,
-        } => {
-            let mut store = [0u8; hex::MOST];
-            let read = hex::bytes(line, data_at, &mut store);
-            match read {
-                BytesRead::Wrong(why) => d.wrong(page, why),
-                BytesRead::Bytes(n) => {
-                    let mut out = [FILL; FULL];
-                    let w = exchange::write::write_command(
-                        source,
-                        destination,
-                        primary,
-                        secondary,
-                        start_of(&store, n),
-                        lent(&mut out, d.room),
-                    );
-                    d.with_used(say::written(page, d.used, w, &out))
-                }
-            }
+fn write_behind(head: Head, line: &[u8], data_at: usize, d: Desk, page: &mut Page) -> Desk {
+    let mut store = [0u8; hex::MOST];
+    let read = hex::bytes(line, data_at, &mut store);
+    match read {
+        BytesRead::Wrong(why) => d.wrong(page, why),
+        BytesRead::Bytes(n) => {
+            let data = start_of(&store, n);
+            d.with_used(write_whole(head, data, d.room, page, d.used))
         }
     }
+}
+
+fn write_whole(head: Head, data: &[u8], room: usize, page: &mut Page, used: usize) -> usize {
+    let mut out = [FILL; FULL];
+    let w = telegram::write::write_command(
+        head.source,
+        head.destination,
+        head.primary,
+        head.secondary,
+        data,
+        lent(&mut out, room),
+    );
+    say::written(page, used, w, &out)
 }

@@ -1,74 +1,71 @@
 // What was wrong with a line that can't be read, and where.
+use crate::names;
 use crate::say;
+use crate::say::Page;
 
-pub(crate) enum What {
-    UnknownCommand,
-    Missing,
-    Extra,
-    NotHex,
-    HalfByte,
-    TooManyBytes,
-    TooManyDigits,
-    NotNumber,
-    TooLarge,
-    NotRequest,
-    TableFull,
-    LineTooLong,
-}
+// What can be wrong, as a number; `say_what` has the words.
+pub(crate) const UNKNOWN_COMMAND: u8 = 1;
+
+pub(crate) const MISSING: u8 = 2;
+
+pub(crate) const EXTRA: u8 = 3;
+
+pub(crate) const NOT_HEX: u8 = 4;
+
+pub(crate) const HALF_BYTE: u8 = 5;
+
+pub(crate) const TOO_MANY_BYTES: u8 = 6;
+
+pub(crate) const TOO_MANY_DIGITS: u8 = 7;
+
+pub(crate) const NOT_NUMBER: u8 = 8;
+
+pub(crate) const TOO_LARGE: u8 = 9;
+
+pub(crate) const NOT_REQUEST: u8 = 10;
+
+pub(crate) const TABLE_FULL: u8 = 11;
+
+pub(crate) const LINE_TOO_LONG: u8 = 12;
 
 // The offset in the line says where.
 pub(crate) struct Fault {
-    pub(crate) what: What,
+    pub(crate) what: u8,
     pub(crate) at: usize,
 }
 
-pub(crate) fn fault_at(what: What, at: usize) -> Fault {
+pub(crate) fn fault_at(what: u8, at: usize) -> Fault {
     Fault { what, at }
 }
 
 // What was wrong, in words.
-fn say_what(what: What, page: &mut [u8], used: usize) -> usize {
-    match what {
-        What::UnknownCommand => say::text(page, used, b"no such command"),
-        What::Missing => say::text(page, used, b"a word is missing"),
-        What::Extra => say::text(page, used, b"a word too many"),
-        What::NotRequest => say::text(page, used, b"neither start nor continue"),
-        _ => say_digits(what, page, used),
-    }
-}
-
-// What was wrong with digits.
-fn say_digits(what: What, page: &mut [u8], used: usize) -> usize {
-    match what {
-        What::NotHex => say::text(page, used, b"not a hexadecimal digit"),
-        What::NotNumber => say::text(page, used, b"not a decimal digit"),
-        What::HalfByte => say::text(page, used, b"half a byte"),
-        What::TooManyDigits => say::text(page, used, b"too many digits"),
-        _ => say_limit(what, page, used),
-    }
-}
-
-// Which limit was passed.
-fn say_limit(what: What, page: &mut [u8], used: usize) -> usize {
-    match what {
-        What::TooManyBytes => say::text(page, used, b"more than 8192 bytes"),
-        What::TooLarge => say::text(page, used, b"number too large"),
-        What::TableFull => say::text(page, used, b"the table has 256 rows already"),
-        What::LineTooLong => say::text(page, used, b"line longer than 65535 bytes"),
-        _ => used,
-    }
+fn say_what(what: u8, page: &mut Page, used: usize) -> usize {
+    names::numbered(
+        b"1 no such command
+2 a word is missing
+3 a word too many
+4 not a hexadecimal digit
+5 half a byte
+6 more than 8192 bytes
+7 too many digits
+8 not a decimal digit
+9 number too large
+10 neither start nor continue
+11 the table has 256 rows already
+12 line longer than 65535 bytes
+",
+        what,
+        page,
+        used,
+    )
 }
 
 // The answer to a line that can't be read. Lines and columns count from 1.
-pub(crate) fn say_fault(why: Fault, line: u64, page: &mut [u8], used: usize) -> usize {
-    let what = why.what;
+pub(crate) fn say_fault(why: Fault, line: u64, page: &mut Page, used: usize) -> usize {
+    let place = [line, one_more(why.at as u64)];
     let a = say::text(page, used, b"error: ");
-    let b = say_what(what, page, a);
-    let c = say::text(page, b, b" at line ");
-    let d = say::decimal(page, c, line);
-    let e = say::text(page, d, b", column ");
-    let f = say::decimal(page, e, one_more(why.at as u64));
-    say::text(page, f, b"\n")
+    let b = say_what(why.what, page, a);
+    say::filled(page, b, b" at line #, column #\n", &place)
 }
 
 // The next number, where there is one.

@@ -1,8 +1,9 @@
 // What the commands are.
 use crate::say;
+use crate::say::Page;
 
 // One line on what this is, for a person at a terminal.
-pub(crate) fn greet(page: &mut [u8], used: usize) -> usize {
+pub(crate) fn greet(page: &mut Page, used: usize) -> usize {
     let a = say::text(
         page,
         used,
@@ -11,7 +12,7 @@ pub(crate) fn greet(page: &mut [u8], used: usize) -> usize {
     commands(page, a)
 }
 
-pub(crate) fn commands(page: &mut [u8], used: usize) -> usize {
+pub(crate) fn commands(page: &mut Page, used: usize) -> usize {
     say::text(
         page,
         used,

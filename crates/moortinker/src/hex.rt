@@ -1,6 +1,8 @@
 // Bytes in hexadecimal.
 use crate::fault::Fault;
-use crate::fault::What;
+use crate::fault::HALF_BYTE;
+use crate::fault::NOT_HEX;
+use crate::fault::TOO_MANY_BYTES;
 use crate::fault::fault_at;
 use crate::number::digit;
 use crate::word;
@@ -16,14 +18,14 @@ pub(crate) enum BytesRead {
 }
 
 // What is wrong with the second digit of a byte: it is missing, or it is none.
-fn second_wrong(line: &[u8], at: usize) -> What {
+fn second_wrong(line: &[u8], at: usize) -> u8 {
     if line.len() <= at {
-        return What::HalfByte;
+        return HALF_BYTE;
     }
     if word::is_blank(line[at]) {
-        return What::HalfByte;
+        return HALF_BYTE;
     }
-    What::NotHex
+    NOT_HEX
 }
 
 // The digit at this place, or 16.
@@ -46,14 +48,14 @@ pub(crate) fn bytes(line: &[u8], at: usize, out: &mut [u8]) -> BytesRead {
         }
         let high = digit(b);
         if 15 < high {
-            return BytesRead::Wrong(fault_at(What::NotHex, i));
+            return BytesRead::Wrong(fault_at(NOT_HEX, i));
         }
         let low = digit_at(line, i + 1);
         if 15 < low {
             return BytesRead::Wrong(fault_at(second_wrong(line, i + 1), i + 1));
         }
         if out.len() <= n {
-            return BytesRead::Wrong(fault_at(What::TooManyBytes, i));
+            return BytesRead::Wrong(fault_at(TOO_MANY_BYTES, i));
         }
         out[n] = high * 16 + low;
         n += 1;

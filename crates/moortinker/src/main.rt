@@ -16,8 +16,9 @@ mod say;
 mod word;
 
 use desk::Desk;
-use fault::What;
+use fault::LINE_TOO_LONG;
 use line::Window;
+use say::Page;
 
 // What the loop over lines carries. `over` says that the input has ended.
 struct State {
@@ -33,7 +34,7 @@ fn main() {
 }
 
 // A person at a terminal is told what the commands are.
-fn greeting(page: &mut [u8]) -> usize {
+fn greeting(page: &mut Page) -> usize {
     if libc::isatty(libc::STDIN_FILENO) == 1 {
         return help::greet(page, 0);
     }
@@ -42,7 +43,7 @@ fn greeting(page: &mut [u8]) -> usize {
 
 // A proved loop has to end, and nothing says that the input does. So the loop counts its turns
 // down, from a number that no run uses up.
-fn session(input: &mut [u8], page: &mut [u8]) {
+fn session(input: &mut [u8], page: &mut Page) {
     let mut turns = u64::MAX;
     let mut s = State {
         window: line::new(),
@@ -59,7 +60,7 @@ fn session(input: &mut [u8], page: &mut [u8]) {
 }
 
 // Obeys the next line where it is there whole, and otherwise reads more.
-fn turn(s: State, input: &mut [u8], page: &mut [u8]) -> State {
+fn turn(s: State, input: &mut [u8], page: &mut Page) -> State {
     let window = s.window;
     let to = window.to;
     let end = line::end_of(input, window.from, to);
@@ -80,7 +81,7 @@ fn turn(s: State, input: &mut [u8], page: &mut [u8]) -> State {
 
 // Reads more behind the part of a line that is there. What was answered so far is written out
 // first, so that a person at a terminal sees it before the tool waits.
-fn more(s: State, input: &mut [u8], page: &mut [u8]) -> State {
+fn more(s: State, input: &mut [u8], page: &mut Page) -> State {
     let window = s.window;
     say::flush(page, s.desk.used);
     let desk = s.desk.with_used(0);
@@ -93,7 +94,7 @@ fn more(s: State, input: &mut [u8], page: &mut [u8]) -> State {
     if input.len() <= held {
         return State {
             window: window.too_long(),
-            desk: desk.wrong_at(page, What::LineTooLong, 0),
+            desk: desk.wrong_at(page, LINE_TOO_LONG, 0),
             over: false,
         };
     }
@@ -106,7 +107,7 @@ fn more(s: State, input: &mut [u8], page: &mut [u8]) -> State {
 }
 
 // The input has ended: what is left is a line without its newline.
-fn last(s: State, input: &[u8], page: &mut [u8]) -> State {
+fn last(s: State, input: &[u8], page: &mut Page) -> State {
     let window = s.window;
     let desk = obey(window, window.to, s.desk, input, page);
     say::flush(page, desk.used);
@@ -114,7 +115,7 @@ fn last(s: State, input: &[u8], page: &mut [u8]) -> State {
 }
 
 // Obeys the line that ends at `end`, unless the rest of one that is too long is passed over.
-fn obey(window: Window, end: usize, d: Desk, input: &[u8], page: &mut [u8]) -> Desk {
+fn obey(window: Window, end: usize, d: Desk, input: &[u8], page: &mut Page) -> Desk {
     if window.skipping {
         return d;
     }

@@ -3,28 +3,26 @@ use crate::commands::extra;
 use crate::desk::Desk;
 use crate::desk::FILL;
 use crate::desk::FULL;
-use crate::fault::What;
+use crate::fault::MISSING;
+use crate::fault::NOT_REQUEST;
 use crate::number::NumberRead;
 use crate::number::digits;
 use crate::number::fault_of;
 use crate::part::lent;
 use crate::say;
+use crate::say::Page;
 use crate::word;
 use fastmodbus::AnswerRead;
 use fastmodbus::Request;
 use fastmodbus::RequestRead;
 
 // The check as it is sent, low byte first.
-pub(crate) fn check(input: &[u8], page: &mut [u8], used: usize) -> usize {
-    let value = crc::modbus_check(input);
-    let a = say::text(page, used, b"check ");
-    let b = say::hex(page, a, (value % 256) as u8);
-    let c = say::text(page, b, b" ");
-    let e = say::hex(page, c, (value / 256) as u8);
-    say::text(page, e, b"\n")
+pub(crate) fn check(input: &[u8], page: &mut Page, used: usize) -> usize {
+    let value = crc::modbus_check(input) as u64;
+    say::filled(page, used, b"check $ $\n", &[value, value / 256])
 }
 
-pub(crate) fn read_request(input: &[u8], page: &mut [u8], used: usize) -> usize {
+pub(crate) fn read_request(input: &[u8], page: &mut Page, used: usize) -> usize {
     let read = fastmodbus::read_request(input);
     match read {
         RequestRead::Asked(request) => say_request(request, page, used),
@@ -32,51 +30,49 @@ pub(crate) fn read_request(input: &[u8], page: &mut [u8], used: usize) -> usize 
     }
 }
 
-fn say_request(request: Request, page: &mut [u8], used: usize) -> usize {
+fn say_request(request: Request, page: &mut Page, used: usize) -> usize {
     match request {
         Request::Start => say::text(page, used, b"start\n"),
         Request::Continue => say::text(page, used, b"continue\n"),
     }
 }
 
-pub(crate) fn read_answer(input: &[u8], page: &mut [u8], used: usize) -> usize {
+pub(crate) fn read_answer(input: &[u8], page: &mut Page, used: usize) -> usize {
     let read = fastmodbus::read_answer(input);
     match read {
         AnswerRead::Found { serial, address } => {
-            let a = say::text(page, used, b"found ");
-            let b = say::device(page, a, serial, address);
-            say::text(page, b, b"\n")
+            let numbers = [serial as u64, address as u64];
+            say::filled(page, used, b"found ^ at $\n", &numbers)
         }
         AnswerRead::End => say::text(page, used, b"end\n"),
         AnswerRead::Refused(why) => say::refused(page, used, why),
     }
 }
 
-pub(crate) fn write_request(line: &[u8], at: usize, d: Desk, page: &mut [u8]) -> Desk {
+pub(crate) fn write_request(line: &[u8], at: usize, d: Desk, page: &mut Page) -> Desk {
     let w = word::next(line, at);
     let name = word::part(line, w.from, w.to);
     if name.len() == 0 {
-        return d.wrong_at(page, What::Missing, w.from);
+        return d.wrong_at(page, MISSING, w.from);
     }
     if word::more(line, w.to) {
         return extra(line, w.to, d, page);
     }
-    if word::same(name, b"start") {
-        return d.with_used(write_asked(Request::Start, d.room, page, d.used));
+    let request = word::place(b"start continue", name);
+    match request {
+        0 => d.with_used(write_asked(Request::Start, d.room, page, d.used)),
+        1 => d.with_used(write_asked(Request::Continue, d.room, page, d.used)),
+        _ => d.wrong_at(page, NOT_REQUEST, w.from),
     }
-    if word::same(name, b"continue") {
-        return d.with_used(write_asked(Request::Continue, d.room, page, d.used));
-    }
-    d.wrong_at(page, What::NotRequest, w.from)
 }
 
-fn write_asked(request: Request, room: usize, page: &mut [u8], used: usize) -> usize {
+fn write_asked(request: Request, room: usize, page: &mut Page, used: usize) -> usize {
     let mut out = [FILL; FULL];
     let w = fastmodbus::write_request(request, lent(&mut out, room));
     say::written(page, used, w, &out)
 }
 
-pub(crate) fn write_found(line: &[u8], at: usize, d: Desk, page: &mut [u8]) -> Desk {
+pub(crate) fn write_found(line: &[u8], at: usize, d: Desk, page: &mut Page) -> Desk {
     let first = digits(line, at, 8);
     let NumberRead::Number(serial, next) = first else {
         return d.wrong(page, fault_of(first));
@@ -93,13 +89,13 @@ pub(crate) fn write_found(line: &[u8], at: usize, d: Desk, page: &mut [u8]) -> D
     d.with_used(write_device(serial, address, d.room, page, d.used))
 }
 
-fn write_device(serial: u32, address: u8, room: usize, page: &mut [u8], used: usize) -> usize {
+fn write_device(serial: u32, address: u8, room: usize, page: &mut Page, used: usize) -> usize {
     let mut out = [FILL; FULL];
     let w = fastmodbus::write_found(serial, address, lent(&mut out, room));
     say::written(page, used, w, &out)
 }
 
-pub(crate) fn write_end(room: usize, page: &mut [u8], used: usize) -> usize {
+pub(crate) fn write_end(room: usize, page: &mut Page, used: usize) -> usize {
     let mut out = [FILL; FULL];
     let w = fastmodbus::write_end(lent(&mut out, room));
     say::written(page, used, w, &out)

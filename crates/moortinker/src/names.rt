@@ -1,12 +1,11 @@
-// The short names of the numbers of refusals.
+// The short names of the numbers of refusals, and how a numbered line of a list is said.
 use crate::line;
 use crate::say;
+use crate::say::Page;
 use crate::word;
 
 // A line for each number, as in docs/numbers.txt.
-pub(crate) fn name(page: &mut [u8], used: usize, number: u8) -> usize {
-    let mut digits = [0u8; 20];
-    let k = io::decimal(number as u64, &mut digits);
+pub(crate) fn name(page: &mut Page, used: usize, number: u8) -> usize {
     numbered(
         b"1 output too short
 2 table not valid
@@ -26,14 +25,21 @@ pub(crate) fn name(page: &mut [u8], used: usize, number: u8) -> usize {
 16 wrong check
 17 serial too large
 ",
-        &digits[..k],
+        number,
         page,
         used,
     )
 }
 
 // Says the words of the line that begins with this number.
-fn numbered(lines: &[u8], number: &[u8], page: &mut [u8], used: usize) -> usize {
+pub(crate) fn numbered(lines: &[u8], number: u8, page: &mut Page, used: usize) -> usize {
+    let mut digits = [0u8; 20];
+    let k = io::decimal(number as u64, &mut digits);
+    words_behind(lines, &digits[..k], page, used)
+}
+
+// Says the words of the line that begins with these digits.
+fn words_behind(lines: &[u8], number: &[u8], page: &mut Page, used: usize) -> usize {
     let mut i = 0;
     while i < lines.len() {
         if begins(lines, i, number) {

@@ -1,6 +1,11 @@
 // Numbers of a line.
+use crate::fault::EXTRA;
 use crate::fault::Fault;
-use crate::fault::What;
+use crate::fault::MISSING;
+use crate::fault::NOT_HEX;
+use crate::fault::NOT_NUMBER;
+use crate::fault::TOO_LARGE;
+use crate::fault::TOO_MANY_DIGITS;
 use crate::fault::fault_at;
 use crate::word;
 ghost use Prim.Native.Nat.{_≤_};
@@ -24,12 +29,8 @@ pub(crate) fn digit(b: u8) -> u8
     }
 }
 
-fn no_digit(base: u64) -> What {
-    if base == 10 {
-        What::NotNumber
-    } else {
-        What::NotHex
-    }
+fn no_digit(base: u64) -> u8 {
+    if base == 10 { NOT_NUMBER } else { NOT_HEX }
 }
 
 // The number whose digits to this base stand from `from` to `to`.
@@ -44,7 +45,7 @@ fn number_in(line: &[u8], from: usize, to: usize, base: u64) -> NumberRead
             return NumberRead::Wrong(fault_at(no_digit(base), i));
         }
         if (u64::MAX - d) / base < value {
-            return NumberRead::Wrong(fault_at(What::TooLarge, from));
+            return NumberRead::Wrong(fault_at(TOO_LARGE, from));
         }
         value = value * base + d;
         i += 1;
@@ -57,7 +58,7 @@ fn number(line: &[u8], from: usize, to: usize) -> NumberRead
     requires { ⌜ (from ≤ to) × (to ≤ length (now line)) ⌝ }
 {
     if from == to {
-        return NumberRead::Wrong(fault_at(What::Missing, from));
+        return NumberRead::Wrong(fault_at(MISSING, from));
     }
     if to - from < 3 {
         return number_in(line, from, to, 10);
@@ -78,14 +79,14 @@ pub(crate) fn last_number(line: &[u8], at: usize, most: u64) -> NumberRead {
     let to = w.to;
     let behind = word::next(line, to);
     if behind.from < behind.to {
-        return NumberRead::Wrong(fault_at(What::Extra, behind.from));
+        return NumberRead::Wrong(fault_at(EXTRA, behind.from));
     }
     let read = number(line, from, to);
     let NumberRead::Number(n, _) = read else {
         return read;
     };
     if most < n {
-        return NumberRead::Wrong(fault_at(What::TooLarge, from));
+        return NumberRead::Wrong(fault_at(TOO_LARGE, from));
     }
     read
 }
@@ -96,10 +97,10 @@ pub(crate) fn digits(line: &[u8], at: usize, most: usize) -> NumberRead {
     let from = w.from;
     let to = w.to;
     if from == to {
-        return NumberRead::Wrong(fault_at(What::Missing, from));
+        return NumberRead::Wrong(fault_at(MISSING, from));
     }
     if most < to - from {
-        return NumberRead::Wrong(fault_at(What::TooManyDigits, from));
+        return NumberRead::Wrong(fault_at(TOO_MANY_DIGITS, from));
     }
     number_in(line, from, to, 16)
 }
@@ -107,7 +108,7 @@ pub(crate) fn digits(line: &[u8], at: usize, most: usize) -> NumberRead {
 // What was wrong with a number.
 pub(crate) fn fault_of(read: NumberRead) -> Fault {
     match read {
-        NumberRead::Number(_, at) => fault_at(What::NotNumber, at),
+        NumberRead::Number(_, at) => fault_at(NOT_NUMBER, at),
         NumberRead::Wrong(why) => why,
     }
 }

@@ -8,11 +8,12 @@ pub(crate) struct Span {
     pub(crate) to: usize,
 }
 
+// A line has no end of line in it; the tool's own lists of words have.
 pub(crate) fn is_blank(b: u8) -> bool {
-    if b == b' ' {
-        return true;
+    match b {
+        b' ' | b'\t' | b'\n' => true,
+        _ => false,
     }
-    b == b'\t'
 }
 
 // The first place from `at` on that is no blank, or with `blanks` false the first that is one; the
@@ -72,4 +73,22 @@ pub(crate) fn same(a: &[u8], b: &[u8]) -> bool {
         i += 1;
     }
     true
+}
+
+// The place of a word in a list of words, from 0 on, or how many there are where it is none of them.
+pub(crate) fn place(words: &[u8], word: &[u8]) -> usize {
+    let mut at = 0;
+    let mut n = 0;
+    while n < words.len() {
+        let w = next(words, at);
+        if w.from == w.to {
+            return n;
+        }
+        if same(part(words, w.from, w.to), word) {
+            return n;
+        }
+        at = w.to;
+        n += 1;
+    }
+    n
 }

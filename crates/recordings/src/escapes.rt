@@ -54,22 +54,34 @@ fn changed(undoing: bool, input: &[u8], out: &mut [u8]) -> Written {
     ebus::escape::expand(input, out)
 }
 
-pub(crate) fn case(undoing: bool, text: &[u8], at: usize) -> Checked {
-    let mut input = [0u8; 16];
-    let i = read_field(text, at, true, &mut input);
+// Whether these bytes become those.
+fn becomes(undoing: bool, input: &[u8], due: &[u8]) -> bool {
     let mut out = [FILL; 64];
+    let w = changed(undoing, input, &mut out);
+    length_is(w, due.len()) && holds(&out, due)
+}
+
+// Whether they are refused, where so much room is lent, with this number and place.
+fn refused(undoing: bool, input: &[u8], room: usize, number: u8, place: usize) -> bool {
+    let mut out = [FILL; 64];
+    let w = changed(undoing, input, lent(&mut out, room));
+    refused_is(w, number, place) && holds(&out, b"")
+}
+
+pub(crate) fn case(undoing: bool, text: &[u8], at: usize) -> Checked {
+    let mut bytes = [0u8; 16];
     let mut due = [0u8; 16];
+    let i = read_field(text, at, true, &mut bytes);
     let d = read_field(text, i.next, i.mark == b'=', &mut due);
+    let input = start(&bytes, i.n);
     if i.mark == b'!' {
-        let w = changed(undoing, start(&input, i.n), lent(&mut out, wide(due[0])));
         return Checked {
-            right: refused_is(w, due[1], wide(due[2])) && holds(&out, b""),
+            right: refused(undoing, input, wide(due[0]), due[1], wide(due[2])),
             next: d.next,
         };
     }
-    let w = changed(undoing, start(&input, i.n), &mut out);
     Checked {
-        right: length_is(w, d.n) && holds(&out, start(&due, d.n)),
+        right: becomes(undoing, input, start(&due, d.n)),
         next: d.next,
     }
 }

@@ -33,85 +33,93 @@ fn number_of(kind: ExchangeKind) -> u8 {
     }
 }
 
-// Whether the answer is this acceptance.
-fn accepted_as(j: Judged, kind: u8, commands: u8, replies: u8, read: usize) -> bool {
-    match j {
-        Judged::Accepted(k, c, r, n) => {
-            number_of(k) == kind && c == commands && r == replies && n == read
-        }
-        Judged::Refused(_) => false,
-    }
-}
-
-// Whether the answer is this refusal.
-fn refused_as(j: Judged, number: u8, place: usize) -> bool {
-    match j {
-        Judged::Accepted(_, _, _, _) => false,
-        Judged::Refused(why) => why.number == number && why.place == place,
-    }
-}
-
-// Whether a run is accepted with these values, and the buffers start with these bytes and no others
-// changed.
-fn accepted(
-    run: &[u8],
+// What is due for a run: 0 with the kind, the attempts and how many bytes are read where it is
+// accepted, or the number and place of its refusal.
+struct Answer {
+    number: u8,
     kind: u8,
     commands: u8,
     replies: u8,
-    read: usize,
-    command: &[u8],
-    first: &[u8],
-    second: &[u8],
-) -> bool {
+    at: usize,
+}
+
+// Whether the answer is what is due.
+fn answered(j: Judged, due: Answer) -> bool {
+    match j {
+        Judged::Accepted(k, c, r, n) => {
+            due.number == 0
+                && number_of(k) == due.kind
+                && c == due.commands
+                && r == due.replies
+                && n == due.at
+        }
+        Judged::Refused(why) => why.number == due.number && why.place == due.at,
+    }
+}
+
+// Whether a run is answered what is due, and the buffers start with these bytes and no others
+// changed.
+fn judged(run: &[u8], due: Answer, command: &[u8], first: &[u8], second: &[u8]) -> bool {
     let mut c = [FILL; 24];
     let mut f = [FILL; 20];
     let mut s = [FILL; 20];
     let j = judge(run, &mut c, &mut f, &mut s);
-    accepted_as(j, kind, commands, replies, read)
-        && holds(&c, command)
-        && holds(&f, first)
-        && holds(&s, second)
+    answered(j, due) && holds(&c, command) && holds(&f, first) && holds(&s, second)
 }
 
 // Whether a run is refused with this number and place, and no buffer changed.
 fn refused(run: &[u8], number: u8, place: usize) -> bool {
-    let mut c = [FILL; 24];
-    let mut f = [FILL; 20];
-    let mut s = [FILL; 20];
-    let j = judge(run, &mut c, &mut f, &mut s);
-    refused_as(j, number, place) && holds(&c, b"") && holds(&f, b"") && holds(&s, b"")
+    let none = b"";
+    let due = Answer {
+        number,
+        kind: 0,
+        commands: 0,
+        replies: 0,
+        at: place,
+    };
+    judged(run, due, none, none, none)
 }
 
-pub(crate) fn case(text: &[u8], at: usize) -> Checked {
-    let mut run = [0u8; 128];
-    let r = read_field(text, at, true, &mut run);
-    let mut due = [0u8; 3];
-    let d = read_field(text, r.next, false, &mut due);
-    if r.mark == b'!' {
-        return Checked {
-            right: refused(start(&run, r.n), due[0], wide(due[1])),
-            next: d.next,
-        };
-    }
+// Whether a run is accepted as is due; what the buffers start with stands in the text from `at` on.
+fn accepted(run: &[u8], due: Answer, text: &[u8], at: usize) -> Checked {
     let mut command = [0u8; 22];
     let mut first = [0u8; 18];
     let mut second = [0u8; 18];
-    let c = read_field(text, d.next, true, &mut command);
+    let c = read_field(text, at, true, &mut command);
     let f = read_field(text, c.next, true, &mut first);
     let s = read_field(text, f.next, true, &mut second);
     Checked {
-        right: accepted(
-            start(&run, r.n),
-            due[0],
-            due[1],
-            due[2],
-            r.n,
+        right: judged(
+            run,
+            due,
             start(&command, c.n),
             start(&first, f.n),
             start(&second, s.n),
         ),
         next: s.next,
     }
+}
+
+pub(crate) fn case(text: &[u8], at: usize) -> Checked {
+    let mut bytes = [0u8; 128];
+    let mut due = [0u8; 3];
+    let r = read_field(text, at, true, &mut bytes);
+    let d = read_field(text, r.next, false, &mut due);
+    let run = start(&bytes, r.n);
+    if r.mark == b'!' {
+        return Checked {
+            right: refused(run, due[0], wide(due[1])),
+            next: d.next,
+        };
+    }
+    let due = Answer {
+        number: 0,
+        kind: due[0],
+        commands: due[1],
+        replies: due[2],
+        at: r.n,
+    };
+    accepted(run, due, text, d.next)
 }
 
 // W7 and W8, document 004's example and frames, SYN in a wait, telegrams with A9 and AA, and the
@@ -314,20 +322,24 @@ fn part_due(at: usize, b: u8) -> Expected {
     }
 }
 
-fn as_due(run: &[u8], due: Expected) -> bool {
-    if due.number == 0 {
-        return accepted(
-            run,
-            TARGET,
-            1,
-            1,
-            13,
-            b"\x10\x08\xB5\x11\x01\x01\x89",
-            b"\x01\x2A\xB1",
-            b"",
-        );
+fn as_due(run: &[u8], expected: Expected) -> bool {
+    if expected.number != 0 {
+        return refused(run, expected.number, expected.place);
     }
-    refused(run, due.number, due.place)
+    let due = Answer {
+        number: 0,
+        kind: TARGET,
+        commands: 1,
+        replies: 1,
+        at: 13,
+    };
+    judged(
+        run,
+        due,
+        b"\x10\x08\xB5\x11\x01\x01\x89",
+        b"\x01\x2A\xB1",
+        b"",
+    )
 }
 
 // W7 with one byte changed, as far as a position.

@@ -10,23 +10,43 @@ mod scans;
 mod tally;
 
 fn main() {
+    say_checks();
+    say_escapes();
+    say_recorded();
+    say_made();
+    say_scans();
+}
+
+fn say_checks() {
     checks::ebus_published().say(b"eBUS check, published");
     checks::ebus_alone().say(b"eBUS check, each byte alone");
     checks::modbus_published().say(b"Modbus check, published");
     checks::modbus_alone().say(b"Modbus check, each byte alone");
+}
+
+fn say_escapes() {
     escapes::expanded().say(b"expand");
     escapes::undone().say(b"undo");
+}
+
+fn say_recorded() {
     exchanges::published().say(b"exchanges, published");
     exchanges::lengths().say(b"exchanges, LEN 16 and 17");
     exchanges::command_nacked().say(b"exchanges, command NACKed");
     exchanges::reply_nacked().say(b"exchanges, reply NACKed");
     exchanges::escaped().say(b"exchanges, escapes");
+}
+
+fn say_made() {
     exchanges::prefixes().say(b"exchanges, every prefix");
     exchanges::each_value(0, 13).say(b"exchanges, each SRC");
     exchanges::each_value(1, 13).say(b"exchanges, each DST");
     exchanges::each_value(4, 13).say(b"exchanges, each LEN");
     exchanges::each_value(7, 8).say(b"exchanges, each byte after a command");
     exchanges::each_value(11, 12).say(b"exchanges, each byte after a reply");
+}
+
+fn say_scans() {
     answers::published().say(b"answers, published");
     scans::sizes().say(b"scans, 0 to 248 devices");
     scans::caps().say(b"scans, caps");

@@ -1,5 +1,7 @@
 // Whole scans of made tables: the answer, the number of requests, how many serials were named in
 // rising order, and how many devices are marked.
+use crate::lines::lent;
+use crate::lines::start;
 use crate::tally::Tally;
 use crate::tally::none;
 use devices::Scanned;
@@ -76,42 +78,23 @@ fn marked(marks: &[u8], n: usize) -> bool {
     ones == n
 }
 
-// A scan of the first n devices, with lists of that length.
-fn scan_first(
-    serials: &[u32],
-    addresses: &[u8],
-    marks: &mut [u8],
-    found: &mut [u32],
-    at: &mut [u8],
-    n: usize,
-    cap: usize,
-) -> Scanned {
-    if serials.len() < n {
-        return Scanned::Unfinished(0);
+// The first n serials, or all where there are fewer.
+fn serials_of(list: &[u32], n: usize) -> &[u32] {
+    if n <= list.len() {
+        return &list[..n];
     }
-    if addresses.len() < n {
-        return Scanned::Unfinished(0);
-    }
-    if marks.len() < n {
-        return Scanned::Unfinished(0);
-    }
-    if found.len() < n {
-        return Scanned::Unfinished(0);
-    }
-    if at.len() < n {
-        return Scanned::Unfinished(0);
-    }
-    scan(
-        &serials[..n],
-        &addresses[..n],
-        &mut marks[..n],
-        &mut found[..n],
-        &mut at[..n],
-        cap,
-    )
+    list
 }
 
-// Whether a scan of n devices under a cap gives this answer with its count, names so many serials in
+// The first n serials, to be written to.
+fn lent_serials(out: &mut [u32], n: usize) -> &mut [u32] {
+    if n <= out.len() {
+        return &mut out[..n];
+    }
+    out
+}
+
+// Whether a scan of the first n devices, with lists of that length, under a cap gives this answer with its count, names so many serials in
 // rising order, and marks as many devices.
 fn scanned(
     n: usize,
@@ -128,13 +111,12 @@ fn scanned(
     let mut found = [FILL; 256];
     let mut at = [0x5Au8; 256];
     lay_out(&mut serials, first, step);
-    let s = scan_first(
-        &serials,
-        &addresses,
-        &mut marks,
-        &mut found,
-        &mut at,
-        n,
+    let s = scan(
+        serials_of(&serials, n),
+        start(&addresses, n),
+        lent(&mut marks, n),
+        lent_serials(&mut found, n),
+        lent(&mut at, n),
         cap,
     );
     gave(s, answer, count) && rising(&found, named) && marked(&marks, named)

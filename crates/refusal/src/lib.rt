@@ -40,8 +40,8 @@ pub const SERIAL_OVER: u8 = 17;
 
 // A refusal: the number, and the offset of the raw byte named, 0 where none is named.
 pub struct Refusal {
-    pub number: u8,
     pub place: usize,
+    pub number: u8,
 }
 
 // What a writer answers: how many bytes it wrote at the start of the lent output, or the refusal.

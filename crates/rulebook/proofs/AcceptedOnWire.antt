@@ -14,8 +14,8 @@ use Rattle.ebus.specs.Escape.{syn, expanded}
 use Rattle.ebus.specs.declared.address.ExchangeKind.{ExchangeKind}
 use Rattle.ebus.specs.declared.address.ExchangeKind.the-variants.{Broadcast, InitiatorInitiator, InitiatorTarget}
 use Rattle.ebus.specs.Address.{kindOf}
-use Rattle.exchange.specs.Telegram.{destinationOf, checkRight, Telegram, read, unread, telegramAt}
-use Rattle.exchange.proofs.TelegramOnWire.{stood}
+use Rattle.telegram.specs.Telegram.{destinationOf, checkRight, Telegram, read, unread, telegramAt}
+use Rattle.telegram.proofs.TelegramOnWire.{stood}
 use Rattle.exchange.specs.Exchange.{ack, nack, Acknowledge, positive, negative, invalid, acknowledgeAt, Attempt, taken, nacked, failed, settled, onAcknowledge, unanswered, onTelegram, attemptAt, Tries, once, twice, neither, onSecond, onFirst, triesAt, End, ended, open-still, synAt, Outcome, accepted, rejected, onEnd, onReply, onKind, onCommand, exchangeAt}
 use Rattle.rulebook.specs.Rules.{Form, ToOne, Accepted, alone, acknowledged, Attempts, at-once, repeated, OnWire, broadcast, initiators, target}
 use Rattle.rulebook.proofs.WholeForms.{form-of}

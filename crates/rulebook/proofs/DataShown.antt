@@ -9,9 +9,9 @@ use lib.ListN.{length, take, drop, length-append}
 use lib.Seq.{take-append-le, take-length}
 use Rattle.lists.specs.Starting.{starting}
 use Rattle.ebus.specs.declared.address.ExchangeKind.{ExchangeKind}
-use Rattle.exchange.specs.Telegram.{longest}
-use Rattle.exchange.specs.Data.{replyData}
-use Rattle.exchange.proofs.Data.{first-whole, second-whole, without-reply}
+use Rattle.telegram.specs.Telegram.{longest}
+use Rattle.telegram.specs.Data.{replyData}
+use Rattle.telegram.proofs.Data.{first-whole, second-whole, without-reply}
 use Rattle.rulebook.specs.Rules.{ReplyForm, Accepted, alone, acknowledged, Attempts, at-once, repeated, OnWire, broadcast, initiators, target}
 use Rattle.rulebook.specs.Demand2.{Shown}
 

@@ -22,9 +22,9 @@ use Rattle.ebus.specs.Escape.{expanded}
 use Rattle.ebus.specs.Address.{initiator, reserved}
 use Rattle.ebus.specs.declared.address.ExchangeKind.{ExchangeKind}
 use Rattle.ebus.proofs.EscapeRoundTrip.{undo-expand, expand-undo}
-use Rattle.exchange.specs.Telegram.{longest, commandRoom, replyRoom, commandOutput, replyOutput}
+use Rattle.telegram.specs.Telegram.{longest, commandRoom, replyRoom, commandOutput, replyOutput}
 use Rattle.exchange.specs.Exchange.{Outcome, accepted, rejected, exchangeAt, exchange, rooms, judged}
-use Rattle.exchange.specs.Data.{replyData}
+use Rattle.telegram.specs.Data.{replyData}
 use Rattle.exchange.specs.View.{answered, commandOf, firstOf, secondOf, Judges}
 use Rattle.exchange.specs.declared.judge.Judged.{Judged}
 use Rattle.exchange.specs.declared.judge.Judged.the-variants.{Accepted, Refused}

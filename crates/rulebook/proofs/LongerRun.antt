@@ -19,7 +19,7 @@ use Rattle.ebus.specs.declared.escape.Logical.{Logical}
 use Rattle.ebus.specs.declared.escape.Logical.the-variants.{Byte, Refused}
 use Rattle.ebus.specs.Logical.{runOver, logicalAt}
 use Rattle.ebus.specs.Address.{initiator, reserved, kindOf}
-use Rattle.exchange.specs.Telegram.{headOf, lengthPlace, destinationOf, longest, checkRight, Field, SRC, DST, LEN, unjudged, fieldAt, faultOf, Telegram, read, unread, onByte, collected, onHead, telegramAt}
+use Rattle.telegram.specs.Telegram.{headOf, lengthPlace, destinationOf, longest, checkRight, Field, SRC, DST, LEN, unjudged, fieldAt, faultOf, Telegram, read, unread, onByte, collected, onHead, telegramAt}
 use Rattle.ebus.proofs.LongerRun.{Stays, OtherRefusal, OtherByte, stays-same, stays-on, stays-pick, stays-byte, logical-stays}
 use Rattle.exchange.specs.Exchange.{ack, nack, Acknowledge, positive, negative, invalid, acknowledgeAt, Attempt, taken, nacked, failed, settled, onAcknowledge, unanswered, onTelegram, attemptAt, Tries, once, twice, neither, nackedTwice, onSecond, onFirst, triesAt, End, ended, open-still, synAt, Outcome, accepted, rejected, onEnd, onReply, onKind, onCommand, exchangeAt, exchange, rooms, judged}
 

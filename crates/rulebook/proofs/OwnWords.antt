@@ -14,7 +14,7 @@ use Rattle.lists.proofs.Cases.{true-not-false}
 use Rattle.ebus.specs.Check.{ebusCheck}
 use Rattle.ebus.specs.declared.address.ExchangeKind.the-variants.{Broadcast, InitiatorInitiator, InitiatorTarget}
 use Rattle.ebus.specs.Address.{initiator, everyone, kindOf}
-use Rattle.exchange.specs.Telegram.{destinationOf, checkRight}
+use Rattle.telegram.specs.Telegram.{destinationOf, checkRight}
 use Rattle.exchange.specs.Exchange.{toAll, unanswered}
 use Rattle.rulebook.specs.Rules.{Right, ToAll, ToOne}
 use Rattle.rulebook.proofs.WholeForms.{last-apart}

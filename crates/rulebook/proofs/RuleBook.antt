@@ -15,8 +15,8 @@ use Rattle.ebus.specs.Escape.{syn, expanded}
 use Rattle.ebus.specs.declared.address.ExchangeKind.{ExchangeKind}
 use Rattle.ebus.specs.declared.address.ExchangeKind.the-variants.{Broadcast, InitiatorInitiator, InitiatorTarget}
 use Rattle.ebus.specs.Address.{kindOf}
-use Rattle.exchange.specs.Telegram.{destinationOf, checkRight, read, telegramAt}
-use Rattle.exchange.proofs.TelegramOnWire.{readable, stood}
+use Rattle.telegram.specs.Telegram.{destinationOf, checkRight, read, telegramAt}
+use Rattle.telegram.proofs.TelegramOnWire.{readable, stood}
 use Rattle.exchange.specs.Exchange.{ack, nack, positive, negative, acknowledgeAt, taken, nacked, failed, settled, onAcknowledge, onTelegram, attemptAt, Tries, once, twice, onSecond, onFirst, triesAt, ended, synAt, accepted, onEnd, onReply, onKind, onCommand, exchangeAt}
 use Rattle.rulebook.specs.Rules.{Form, ToOne, Accepted, alone, acknowledged, Attempts, at-once, repeated, OnWire, broadcast, initiators, target}
 use Rattle.rulebook.proofs.WholeForms.{whole-of}

@@ -11,10 +11,10 @@ use borrow.Author.Tests.{le-leb}
 use Rattle.lists.specs.Choice.{pick}
 use Rattle.refusal.specs.Number.{sourceWrong, destinationWrong, lengthOver}
 use Rattle.ebus.specs.Address.{initiator, reserved}
-use Rattle.exchange.specs.Telegram.{longest, SRC, DST, LEN, unjudged, fieldAt, faultOf}
-use Rattle.exchange.proofs.CollectedOnWire.{Fine}
-use Rattle.exchange.proofs.HeadJudged.{fine-source, fine-destination, fine-length}
-use Rattle.exchange.proofs.TelegramOnWire.{Whole}
+use Rattle.telegram.specs.Telegram.{longest, SRC, DST, LEN, unjudged, fieldAt, faultOf}
+use Rattle.telegram.proofs.CollectedOnWire.{Fine}
+use Rattle.telegram.proofs.HeadJudged.{fine-source, fine-destination, fine-length}
+use Rattle.telegram.proofs.TelegramOnWire.{Whole}
 use Rattle.rulebook.specs.Rules.{CommandForm, ReplyForm, Form}
 
 -- ---- no fault in a head, field by field

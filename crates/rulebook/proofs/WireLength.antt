@@ -7,37 +7,19 @@ use Prim.Native.Nat.{ℕ, suc, _+_, _≤_}
 use native.Mathlib.Omega.{arith}
 use lib.ListN.{length, length-append}
 use Rattle.refusal.specs.Output.{bytes}
-use Rattle.lists.proofs.Cases.{true-not-false}
 use Rattle.crc.specs.Register.{step, enter, bits}
 use Rattle.ebus.specs.Check.{ebusBytes, ebusCheck}
 use Rattle.ebus.specs.Escape.{escaped, expanded}
-use Rattle.ebus.proofs.Escaped.{escaped-plain}
 use Rattle.ebus.specs.Address.{initiatorNibble, initiator, reserved}
-use Rattle.exchange.specs.Telegram.{longest, closed, read, telegramAt, commandOutput, replyOutput}
+use Rattle.telegram.specs.Telegram.{longest, closed, read, telegramAt, commandOutput, replyOutput}
 use Rattle.ebus.proofs.EscapeRoundTrip.{expanded-at-most}
-use Rattle.exchange.proofs.TelegramOnWire.{stood}
+use Rattle.telegram.proofs.TelegramOnWire.{stood}
+use Rattle.telegram.proofs.HeadJudged.{source-plain, destination-plain, length-plain}
 use Rattle.rulebook.specs.Rules.{Form}
 use Rattle.rulebook.specs.Lengths.{longestOnWire, Lengths}
 use Rattle.rulebook.specs.ReadBack.{commandBytes, replyBytes}
 use Rattle.rulebook.proofs.WholeForms.{form-of, one-longer}
 use Rattle.rulebook.proofs.WrittenRead.{command-written, command-form, reply-written, reply-form}
-
--- ---- SRC, DST and LEN need no escape
-
-source-plain : (b : ℕ) → initiator b ≡ true → escaped b ≡ b ∷ []
-unfolding initiator initiatorNibble
-source-plain b h =
-    escaped-plain b (λ e. true-not-false (subst (λ (x : ℕ). initiator x ≡ true) e h) refl)
-    (λ e. true-not-false (subst (λ (x : ℕ). initiator x ≡ true) e h) refl)
-
-destination-plain : (b : ℕ) → reserved b ≡ false → escaped b ≡ b ∷ []
-unfolding reserved
-destination-plain b h =
-    escaped-plain b (λ e. true-not-false refl (subst (λ (x : ℕ). reserved x ≡ false) e h))
-    (λ e. true-not-false refl (subst (λ (x : ℕ). reserved x ≡ false) e h))
-
-length-plain : (b : ℕ) → b ≤ longest → escaped b ≡ b ∷ []
-length-plain b h = escaped-plain b (λ e. omega arith) (λ e. omega arith)
 
 -- ---- the lengths: PB, SB, data and check byte may take two raw bytes each
 

@@ -18,7 +18,7 @@ use Rattle.ebus.specs.Escape.{syn, expanded}
 use Rattle.ebus.specs.declared.address.ExchangeKind.{ExchangeKind}
 use Rattle.ebus.specs.declared.address.ExchangeKind.the-variants.{Broadcast, InitiatorInitiator, InitiatorTarget}
 use Rattle.ebus.specs.Address.{initiator, reserved, kindOf}
-use Rattle.exchange.specs.Telegram.{destinationOf, longest, closed, commandOutput, replyOutput}
+use Rattle.telegram.specs.Telegram.{destinationOf, longest, closed, commandOutput, replyOutput}
 use Rattle.exchange.specs.Exchange.{ack, toAll, unanswered}
 use Rattle.rulebook.specs.ReadBack.{commandBytes, replyBytes, Before, nothing, nacked-once, rawBefore, attemptsOf, firstTried, secondTried}
 use Rattle.rulebook.specs.Rules.{CommandForm, ReplyForm, Right, Accepted, alone, acknowledged, Attempts, at-once, repeated, OnWire, broadcast, initiators, target}

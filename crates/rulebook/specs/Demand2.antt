@@ -20,9 +20,9 @@ use Rattle.ebus.specs.Undo.{undone}
 use Rattle.ebus.specs.Address.{initiator, reserved, kindOf}
 use Rattle.ebus.specs.declared.address.ExchangeKind.{ExchangeKind}
 use Rattle.ebus.specs.declared.address.ExchangeKind.the-variants.{Broadcast, InitiatorInitiator, InitiatorTarget}
-use Rattle.exchange.specs.Telegram.{longest, commandRoom, replyRoom, commandOutput, replyOutput}
+use Rattle.telegram.specs.Telegram.{longest, commandRoom, replyRoom, commandOutput, replyOutput}
 use Rattle.exchange.specs.Exchange.{ack, accepted, exchangeAt, judged}
-use Rattle.exchange.specs.Data.{replyData}
+use Rattle.telegram.specs.Data.{replyData}
 use Rattle.exchange.specs.View.{Judges}
 use Rattle.exchange.specs.declared.judge.Judged.{Judged}
 use Rattle.exchange.specs.declared.judge.Judged.the-variants.{Accepted, Refused}

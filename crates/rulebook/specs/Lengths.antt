@@ -9,7 +9,7 @@ use Rattle.lists.specs.Choice.{pick}
 use Rattle.refusal.specs.Output.{bytes}
 use Rattle.ebus.specs.Escape.{escaped, expanded}
 use Rattle.ebus.specs.Address.{initiator, reserved}
-use Rattle.exchange.specs.Telegram.{longest, read, telegramAt, commandOutput, replyOutput}
+use Rattle.telegram.specs.Telegram.{longest, read, telegramAt, commandOutput, replyOutput}
 use Rattle.rulebook.specs.Rules.{Form}
 
 -- of a command, and of a reply

@@ -5,7 +5,7 @@ use mathlib.Core.List.{List, [], _∷_, _++_}
 use Prim.Native.Nat.{ℕ}
 use lib.ListN.{length}
 use Rattle.ebus.specs.Escape.{expanded}
-use Rattle.exchange.specs.Telegram.{closed}
+use Rattle.telegram.specs.Telegram.{closed}
 use Rattle.exchange.specs.Exchange.{nack}
 use Rattle.rulebook.specs.Rules.{Form, ToOne}
 

@@ -12,7 +12,7 @@ use Rattle.ebus.specs.Escape.{syn, expanded}
 use Rattle.ebus.specs.declared.address.ExchangeKind.{ExchangeKind}
 use Rattle.ebus.specs.declared.address.ExchangeKind.the-variants.{Broadcast, InitiatorInitiator, InitiatorTarget}
 use Rattle.ebus.specs.Address.{initiator, reserved, everyone, kindOf}
-use Rattle.exchange.specs.Telegram.{destinationOf, longest}
+use Rattle.telegram.specs.Telegram.{destinationOf, longest}
 use Rattle.exchange.specs.Exchange.{ack, nack}
 
 -- a command, rule E9; its check byte may be wrong

@@ -10,7 +10,7 @@ use Rattle.ebus.specs.Escape.{expanded}
 use Rattle.ebus.specs.declared.address.ExchangeKind.the-variants.{Broadcast, InitiatorInitiator, InitiatorTarget}
 use Rattle.ebus.specs.Address.{kindOf}
 use Rattle.exchange.specs.Exchange.{accepted, rejected, judged}
-use Rattle.exchange.specs.Data.{replyData}
+use Rattle.telegram.specs.Data.{replyData}
 use Rattle.fastmodbus.specs.Layout.{requestFrame, foundFrame, endFrame}
 use Rattle.fastmodbus.specs.Reading.{readRequest, readAnswer}
 use Rattle.fastmodbus.specs.declared.Request.the-variants.{Start, Continue}

@@ -8,7 +8,7 @@ use Rattle.moortinker.proofs.session.Tie as tie
 
 abbrev Inv-loop : tie.InvT-loop
 Inv-loop input₀ page₀ turns₀ s₀ input page turns s =
-    (length input ≡ length input₀) × (length page ≡ length page₀)
+    length input ≡ length input₀
 
 abbrev μ-loop : tie.MeasureT-loop
 μ-loop input₀ page₀ turns₀ s₀ input page turns s = turns
@@ -37,9 +37,6 @@ turn-requires c κs = search needs
 same-length : tie.Need-same-length Inv-loop μ-loop
 same-length c = search needs
 
-same-length-2 : tie.Need-same-length-2 Inv-loop μ-loop
-same-length-2 c = search needs
-
 returns : tie.Need-returns Inv-loop μ-loop
 returns c = search needs
 
@@ -49,11 +46,8 @@ loop-less c = search needs
 loop-again : tie.Need-loop-again Inv-loop μ-loop
 loop-again c = search needs
 
-same-length-3 : tie.Need-same-length-3 Inv-loop μ-loop
-same-length-3 c = search needs
-
-same-length-4 : tie.Need-same-length-4 Inv-loop μ-loop
-same-length-4 c = search needs
+same-length-2 : tie.Need-same-length-2 Inv-loop μ-loop
+same-length-2 c = search needs
 
 returns-2 : tie.Need-returns-2 Inv-loop μ-loop
 returns-2 c = search needs
@@ -72,10 +66,8 @@ session-spec =
     sub-turns
     turn-requires
     same-length
-    same-length-2
     returns
     loop-less
     loop-again
-    same-length-3
-    same-length-4
+    same-length-2
     returns-2)

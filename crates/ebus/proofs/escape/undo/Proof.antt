@@ -1,13 +1,19 @@
 -- `ebus::escape::undo` meets its contract: the length is worked out first, and the output is written only where it fits.
 -- Assumes nothing.
-use mathlib.Core.Path.{_≡_, sym, _∙_}
+use mathlib.Core.Path.{_≡_, sym, ap, _∙_}
+use mathlib.Core.List.{List}
+use Prim.Native.Nat.{ℕ}
 use native.Mathlib.Omega.{arith}
-use lib.ListN.{length}
+use lib.ListN.{length, take}
 use borrow.Author.Needs.{needs}
-use Rattle.refusal.specs.Output.{written}
+use Rattle.lists.specs.Starting.{starting}
+use Rattle.lists.proofs.Filling.{put-whole}
+use Rattle.refusal.specs.Output.{content, written}
 use Rattle.refusal.specs.declared.Written.the-variants.{Length}
 use Rattle.refusal.proofs.Writer.{accepted, accepted-length, wrote-refused, wrote-short, wrote-all}
+use Rattle.ebus.specs.Logical.{logicalsAt}
 use Rattle.ebus.specs.Undo.{undone}
+use Rattle.ebus.proofs.Undo.{undone-logicals}
 use Rattle.ebus.proofs.escape.undo.Statement.{statement}
 use Rattle.ebus.proofs.escape.undo.Tie as tie
 
@@ -35,13 +41,8 @@ returns-2 c =
     let e : written out ≡ Length n = sym (c .before .before .before .before .before .undone-length .ensures) ∙ c .before .before .before .counted .given .1 in
     wrote-short out (length old) old n e (c .too-short .result) (c .before .if1 .taken) (c .too-short .ensures)
 
-undo-into-requires : tie.Need-undo-into-requires
-undo-into-requires c κs =
-    let out = undone (c .before .before .before .before .before .before .before .before .args .raw .now) in
-    let old = c .before .before .before .before .before .before .before .before .args .out .now in
-    let n = c .before .before .before .counted .given .0 .0 in
-    let e : written out ≡ Length n = sym (c .before .before .before .before .before .undone-length .ensures) ∙ c .before .before .before .counted .given .1 in
-    (accepted out n e, omega (arith, accepted-length out n e))
+put-logical-requires : tie.Need-put-logical-requires
+put-logical-requires c κs = search needs
 
 same-length : tie.Need-same-length
 same-length c = search needs
@@ -52,7 +53,12 @@ returns-3 c =
     let old = c .before .before .before .before .before .before .before .before .before .before .before .args .out .now in
     let n = c .before .before .before .before .before .before .counted .given .0 .0 in
     let e : written out ≡ Length n = sym (c .before .before .before .before .before .before .before .before .undone-length .ensures) ∙ c .before .before .before .before .before .before .counted .given .1 in
-    wrote-all out (length old) old n e (c .before .before .undo-into .last .1 .0) (c .before .before .before .before .if1 .left) (c .before .before .undo-into .ensures)
+    let all = content out in
+    let size : length all ≡ n = accepted-length out n e in
+    let whole : logicalsAt (c .before .before .before .before .before .before .before .before .before .before .before .args .raw .now) n 0 ≡ all =
+    ap (λ (k : ℕ). logicalsAt (c .before .before .before .before .before .before .before .before .before .before .before .args .raw .now) k 0) (sym size) ∙ undone-logicals (c .before .before .before .before .before .before .before .before .before .before .before .args .raw .now) all (accepted out n e) in
+    wrote-all out (length old) old n e (c .before .before .put-logical .last .1 .1 .1 .0) (c .before .before .before .before .if1 .left)
+    (c .before .before .put-logical .ensures ∙ ap (λ (l : List ℕ). starting (take (length old) l) old) whole ∙ put-whole all old (omega (arith, c .before .before .before .before .if1 .left)))
 
 pub undo-spec : {M : Type 1} → statement M
 undo-spec =
@@ -64,6 +70,6 @@ undo-spec =
     returns
     too-short-requires
     returns-2
-    undo-into-requires
+    put-logical-requires
     same-length
     returns-3)

@@ -1,93 +1,63 @@
 -- `exchange::attempt::attempt_at` meets its contract: a telegram that was read is settled at once, or by its acknowledge byte.
 -- Assumes nothing.
-use mathlib.Core.Path.{_≡_, sym, ap, _∙_}
+use mathlib.Core.Path.{sym, ap, _∙_}
 use mathlib.Core.Bool.{true, false}
-use native.Mathlib.Omega.{arith}
-use lib.ListN.{length, take}
+use lib.ListN.{length}
+use lib.Seq.{take-length}
+use borrow.Author.Tests.{not-true, not-false}
+use Rattle.exchange.specs.Inner.{attemptOf}
 use Rattle.exchange.specs.declared.attempt.Attempt.{Attempt as AttemptStruct}
-use Rattle.exchange.specs.Exchange.{failed, onTelegram, attemptAt}
-use Rattle.exchange.specs.View.{readAs}
-use Rattle.exchange.specs.Inner.{whyUnread, attemptOf}
-use Rattle.exchange.proofs.InBuffer.{fits-array, attempt-is}
+use Rattle.exchange.proofs.FromRun.{ready-zero, all-of-it, ready-read, read-from, second-within, attempt-is, attempt-refused}
 use borrow.Author.Needs.{needs}
 use Rattle.exchange.proofs.attempt.attempt_at.Statement.{statement}
 use Rattle.exchange.proofs.attempt.attempt_at.Tie as tie
 
-read-telegram-requires : tie.Need-read-telegram-requires
-read-telegram-requires c κs = search needs
+slice-aggregate-extent-at : tie.Need-slice-aggregate-extent-at
+slice-aggregate-extent-at c = sym (ap length (take-length (c .before .before .args .run .now)))
 
-enum-told : tie.Need-enum-told
-enum-told c = search needs
-
-enum-told-2 : tie.Need-enum-told-2
-enum-told-2 c = search needs
-
-why-unread-requires : tie.Need-why-unread-requires
-why-unread-requires c κs = search needs
+extent-at-requires : tie.Need-extent-at-requires
+extent-at-requires c κs = search needs
 
 attempt-failed-requires : tie.Need-attempt-failed-requires
 attempt-failed-requires c κs = search needs
 
-same-length : tie.Need-same-length
-same-length c = search needs
-
 returns : tie.Need-returns
-unfolding attemptAt
-returns c = let t = c .before .before .before .before .before .before .read-telegram .result in
-    let buffer = c .before .before .before .before .before .before .read-telegram .last .1 .1 .1 .0 in
-    let is = sym (c .before .before .before .before .before .before .read-telegram .ensures .0) ∙ ap (readAs (take (t .len) buffer) (t .last) (t .next)) (c .before .before .enum-told2 .given .1) in (
-      ap (λ (a : AttemptStruct). attemptOf a buffer) (c .attempt-failed .ensures) ∙ ap failed (c .before .why-unread .ensures ∙ ap whyUnread (c .before .before .enum-told2 .given .1)) ∙ sym (ap (onTelegram (c .before .before .before .before .before .before .before .before .before .before .args .command) (c .before .before .before .before .before .before .before .before .before .before .args .run .now)) is),
-      omega (arith, ap (λ (a : AttemptStruct). a .len) (c .attempt-failed .ensures)),
-    )
-
-slice-read-is-unanswered : tie.Need-slice-read-is-unanswered
-slice-read-is-unanswered c = search needs
+returns c = (
+  ap (λ (a : AttemptStruct). attemptOf a (c .before .before .before .before .before .before .before .args .run .now) (c .before .before .before .before .before .before .before .args .at)) (c .attempt-failed .ensures) ∙ sym (attempt-refused (c .before .before .before .before .before .before .before .args .command) (c .before .before .before .before .before .before .before .args .run .now) (c .before .before .before .before .before .before .before .args .at) (c .before .before .before .before .extent-at .result) (all-of-it (c .before .before .before .before .before .before .before .args .command) (c .before .before .before .before .before .before .before .args .run .now) (c .before .before .before .before .before .before .before .args .at) (c .before .before .before .before .extent-at .ensures)) (not-true _ (c .before .before .if1 .taken))),
+  ready-zero _ _ _ _ (ap (λ (a : AttemptStruct). a .len) (c .attempt-failed .ensures)),
+)
 
 is-unanswered-requires : tie.Need-is-unanswered-requires
-is-unanswered-requires c κs = search needs
+is-unanswered-requires c κs = second-within (c .before .before .before .before .before .args .command) (c .before .before .before .before .before .args .run .now) (c .before .before .before .before .before .args .at) (c .before .before .extent-at .result) (all-of-it (c .before .before .before .before .before .args .command) (c .before .before .before .before .before .args .run .now) (c .before .before .before .before .before .args .at) (c .before .before .extent-at .ensures)) (not-false _ (c .if1 .left))
 
 settle-requires : tie.Need-settle-requires
-settle-requires c κs = let size : length (c .before .before .before .before .before .before .before .before .read-telegram .last .1 .1 .1 .0) ≡ length (c .before .before .before .before .before .before .before .before .before .before .before .before .args .out .now) = search needs in
-    omega (arith, size, c .before .before .before .before .before .before .before .before .read-telegram .ensures .1, fits-array (c .before .before .before .before .before .before .before .before .before .before .before .before .args .command), c .before .before .before .before .before .before .before .before .before .before .before .before .pre)
-
-same-length-2 : tie.Need-same-length-2
-same-length-2 c = search needs
+settle-requires c κs = (c .before .before .before .before .before .before .before .pre, read-from (c .before .before .before .before .before .before .before .args .command) (c .before .before .before .before .before .before .before .args .run .now) (c .before .before .before .before .before .before .before .args .at) (c .before .before .before .before .extent-at .result) (all-of-it (c .before .before .before .before .before .before .before .args .command) (c .before .before .before .before .before .before .before .args .run .now) (c .before .before .before .before .before .before .before .args .at) (c .before .before .before .before .extent-at .ensures)) (not-false _ (c .before .before .if1 .left)))
 
 returns-2 : tie.Need-returns-2
 returns-2 c = (
-  c .settle .ensures .0 ∙ sym (attempt-is (c .before .before .before .before .before .before .before .before .before .before .before .before .before .args .command) (c .before .before .before .before .before .before .before .before .before .before .before .before .before .args .run .now) (c .before .before .before .before .before .before .before .before .before .before .before .before .before .args .at) (c .before .before .before .before .before .before .before .before .before .read-telegram .result) (c .before .before .before .before .before .before .before .before .before .read-telegram .last .1 .1 .1 .0) (c .before .before .before .before .before .before .before .before .before .read-telegram .ensures .0) (c .before .before .before .before .before .enum-told .given .1) true (sym (c .before .before .before .is-unanswered .ensures) ∙ c .before .before .if1 .taken)),
-  omega (arith, c .settle .ensures .1, c .before .before .before .before .before .before .before .before .before .read-telegram .ensures .1),
+  c .settle .ensures .0 ∙ sym (attempt-is (c .before .before .before .before .before .before .before .before .args .command) (c .before .before .before .before .before .before .before .before .args .run .now) (c .before .before .before .before .before .before .before .before .args .at) (c .before .before .before .before .before .extent-at .result) (all-of-it (c .before .before .before .before .before .before .before .before .args .command) (c .before .before .before .before .before .before .before .before .args .run .now) (c .before .before .before .before .before .before .before .before .args .at) (c .before .before .before .before .before .extent-at .ensures)) (not-false _ (c .before .before .before .if1 .left)) true (sym (c .before .before .is-unanswered .ensures) ∙ c .before .if2 .taken)),
+  c .settle .ensures .1 _ (ready-read (c .before .before .before .before .before .before .before .before .args .command) (c .before .before .before .before .before .before .before .before .args .run .now) (c .before .before .before .before .before .before .before .before .args .at) (c .before .before .before .before .before .extent-at .result) (all-of-it (c .before .before .before .before .before .before .before .before .args .command) (c .before .before .before .before .before .before .before .before .args .run .now) (c .before .before .before .before .before .before .before .before .args .at) (c .before .before .before .before .before .extent-at .ensures)) (not-false _ (c .before .before .before .if1 .left))),
 )
 
 acknowledged-requires : tie.Need-acknowledged-requires
-acknowledged-requires c κs = let size : length (c .before .before .before .before .before .before .before .before .read-telegram .last .1 .1 .1 .0) ≡ length (c .before .before .before .before .before .before .before .before .before .before .before .before .args .out .now) = search needs in
-    omega (arith, size, c .before .before .before .before .before .before .before .before .read-telegram .ensures .1, fits-array (c .before .before .before .before .before .before .before .before .before .before .before .before .args .command), c .before .before .before .before .before .before .before .before .before .before .before .before .pre)
-
-same-length-3 : tie.Need-same-length-3
-same-length-3 c = search needs
+acknowledged-requires c κs = (c .before .before .before .before .before .before .before .pre, read-from (c .before .before .before .before .before .before .before .args .command) (c .before .before .before .before .before .before .before .args .run .now) (c .before .before .before .before .before .before .before .args .at) (c .before .before .before .before .extent-at .result) (all-of-it (c .before .before .before .before .before .before .before .args .command) (c .before .before .before .before .before .before .before .args .run .now) (c .before .before .before .before .before .before .before .args .at) (c .before .before .before .before .extent-at .ensures)) (not-false _ (c .before .before .if1 .left)))
 
 returns-3 : tie.Need-returns-3
 returns-3 c = (
-  c .acknowledged .ensures .0 ∙ sym (attempt-is (c .before .before .before .before .before .before .before .before .before .before .before .before .before .args .command) (c .before .before .before .before .before .before .before .before .before .before .before .before .before .args .run .now) (c .before .before .before .before .before .before .before .before .before .before .before .before .before .args .at) (c .before .before .before .before .before .before .before .before .before .read-telegram .result) (c .before .before .before .before .before .before .before .before .before .read-telegram .last .1 .1 .1 .0) (c .before .before .before .before .before .before .before .before .before .read-telegram .ensures .0) (c .before .before .before .before .before .enum-told .given .1) false (sym (c .before .before .before .is-unanswered .ensures) ∙ c .before .before .if1 .left)),
-  omega (arith, c .acknowledged .ensures .1, c .before .before .before .before .before .before .before .before .before .read-telegram .ensures .1),
+  c .acknowledged .ensures .0 ∙ sym (attempt-is (c .before .before .before .before .before .before .before .before .args .command) (c .before .before .before .before .before .before .before .before .args .run .now) (c .before .before .before .before .before .before .before .before .args .at) (c .before .before .before .before .before .extent-at .result) (all-of-it (c .before .before .before .before .before .before .before .before .args .command) (c .before .before .before .before .before .before .before .before .args .run .now) (c .before .before .before .before .before .before .before .before .args .at) (c .before .before .before .before .before .extent-at .ensures)) (not-false _ (c .before .before .before .if1 .left)) false (sym (c .before .before .is-unanswered .ensures) ∙ c .before .if2 .left)),
+  c .acknowledged .ensures .1 _ (ready-read (c .before .before .before .before .before .before .before .before .args .command) (c .before .before .before .before .before .before .before .before .args .run .now) (c .before .before .before .before .before .before .before .before .args .at) (c .before .before .before .before .before .extent-at .result) (all-of-it (c .before .before .before .before .before .before .before .before .args .command) (c .before .before .before .before .before .before .before .before .args .run .now) (c .before .before .before .before .before .before .before .before .args .at) (c .before .before .before .before .before .extent-at .ensures)) (not-false _ (c .before .before .before .if1 .left))),
 )
 
 pub attempt-at-spec : {M : Type 1} → statement M
 attempt-at-spec =
     tie.close
     (tie.spec
-    read-telegram-requires
-    enum-told
-    enum-told-2
-    why-unread-requires
+    slice-aggregate-extent-at
+    extent-at-requires
     attempt-failed-requires
-    same-length
     returns
-    slice-read-is-unanswered
     is-unanswered-requires
     settle-requires
-    same-length-2
     returns-2
     acknowledged-requires
-    same-length-3
     returns-3)

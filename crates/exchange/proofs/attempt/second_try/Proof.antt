@@ -2,12 +2,13 @@
 -- Assumes nothing.
 use mathlib.Core.Path.{sym, ap, _∙_}
 use Prim.Native.Nat.{ℕ}
-use native.Mathlib.Omega.{arith}
-use lib.ListN.{take}
 use Rattle.refusal.specs.Number.{at-place}
+use Rattle.ebus.specs.Logical.{logicalsAt}
 use Rattle.exchange.specs.Exchange.{neither, onSecond}
 use Rattle.exchange.specs.Inner.{attemptAs, triesOf}
 use Rattle.exchange.specs.declared.attempt.Tries.{Tries as TriesStruct}
+use Rattle.exchange.proofs.Attempts.{taken-read, neither-not-twice}
+use Rattle.exchange.proofs.FromRun.{ready-zero}
 use borrow.Author.Needs.{needs}
 use Rattle.exchange.proofs.attempt.second_try.Statement.{statement}
 use Rattle.exchange.proofs.attempt.second_try.Tie as tie
@@ -27,44 +28,51 @@ nacked-twice-requires c κs = search needs
 no-tries-requires : tie.Need-no-tries-requires
 no-tries-requires c κs = search needs
 
-enum-known-standing : tie.Need-enum-known-standing
-enum-known-standing c = search needs
+enum-told-3 : tie.Need-enum-told-3
+enum-told-3 c = search needs
 
 no-tries-requires-2 : tie.Need-no-tries-requires-2
 no-tries-requires-2 c κs = search needs
 
-same-length : tie.Need-same-length
-same-length c = search needs
-
 returns : tie.Need-returns
-returns c = let command = c .before .before .before .before .before .before .before .before .args .command in
-    let a = c .before .before .before .before .attempt-at .result in
-    let held = c .before .before .before .before .attempt-at .last .1 .1 .1 .0 in
-    let is = sym (c .before .before .before .before .attempt-at .ensures .0) ∙ ap (attemptAs (take (a .len) held) (a .next)) (c .enum-told .given .1) in
-    (λ first. sym (ap (onSecond command (take (c .before .before .before .before .before .before .before .before .args .len) first)) is), (omega arith, c .before .before .before .before .attempt-at .ensures .1))
-
-same-length-2 : tie.Need-same-length-2
-same-length-2 c = search needs
-
-returns-2 : tie.Need-returns-2
-returns-2 c = let command = c .before .before .before .before .before .before .before .before .before .before .args .command in
-    let a = c .before .before .before .before .before .before .attempt-at .result in
-    let held = c .before .before .before .before .before .before .attempt-at .last .1 .1 .1 .0 in
-    let is = sym (c .before .before .before .before .before .before .attempt-at .ensures .0) ∙ ap (attemptAs (take (a .len) held) (a .next)) (c .before .before .enum-told2 .given .1) in (
-      λ first. ap (λ (t : TriesStruct). triesOf t first held) (c .no-tries .ensures) ∙ ap (λ (k : ℕ). neither (at-place k (a .next))) (c .before .nacked-twice .ensures) ∙ sym (ap (onSecond command (take (c .before .before .before .before .before .before .before .before .before .before .args .len) first)) is),
-      (omega (arith, ap (λ (t : TriesStruct). t .len1) (c .no-tries .ensures)), omega (arith, ap (λ (t : TriesStruct). t .len2) (c .no-tries .ensures))),
+returns c =
+    let run = c .before .before .before .before .before .args .run .now in
+    let at = c .before .before .before .before .before .args .at in
+    let command = c .before .before .before .before .before .args .command in
+    let a = c .before .before .before .attempt-at .result in
+    let is = sym (c .before .before .before .attempt-at .ensures .0) ∙ ap (attemptAs (logicalsAt run (a .len) at) (a .next) (a .why)) (c .enum-told .given .1) in (
+      λ start. sym (ap (onSecond command (logicalsAt run (c .before .before .before .before .before .args .len) start)) is),
+      ((λ start ready. ready, c .before .before .before .attempt-at .ensures .1), λ _. taken-read command run at (logicalsAt run (a .len) at) (a .next) is),
     )
 
-same-length-3 : tie.Need-same-length-3
-same-length-3 c = search needs
+returns-2 : tie.Need-returns-2
+returns-2 c =
+    let run = c .before .before .before .before .before .before .before .args .run .now in
+    let at = c .before .before .before .before .before .before .before .args .at in
+    let command = c .before .before .before .before .before .before .before .args .command in
+    let a = c .before .before .before .before .before .attempt-at .result in
+    let is = sym (c .before .before .before .before .before .attempt-at .ensures .0) ∙ ap (attemptAs (logicalsAt run (a .len) at) (a .next) (a .why)) (c .before .before .enum-told2 .given .1) in (
+      λ start.
+          ap (λ (t : TriesStruct). triesOf t run start) (c .no-tries .ensures) ∙ ap (λ (k : ℕ). neither (at-place k (a .next))) (c .before .nacked-twice .ensures)
+          ∙ sym (ap (onSecond command (logicalsAt run (c .before .before .before .before .before .before .before .args .len) start)) is),
+      (
+        (λ start _. ready-zero command run start _ (ap (λ (t : TriesStruct). t .len1) (c .no-tries .ensures)), ready-zero command run _ _ (ap (λ (t : TriesStruct). t .len2) (c .no-tries .ensures))),
+        λ told. neither-not-twice (ap (λ (t : TriesStruct). t .tried) (c .no-tries .ensures)) told,
+      ),
+    )
 
 returns-3 : tie.Need-returns-3
-returns-3 c = let command = c .before .before .before .before .before .before .before .before .before .before .args .command in
-    let a = c .before .before .before .before .before .before .attempt-at .result in
-    let held = c .before .before .before .before .before .before .attempt-at .last .1 .1 .1 .0 in
-    let is = sym (c .before .before .before .before .before .before .attempt-at .ensures .0) ∙ ap (attemptAs (take (a .len) held) (a .next)) (c .before .before .standing .given .1) in (
-      λ first. ap (λ (t : TriesStruct). triesOf t first held) (c .no-tries2 .ensures) ∙ sym (ap (onSecond command (take (c .before .before .before .before .before .before .before .before .before .before .args .len) first)) is),
-      (omega (arith, ap (λ (t : TriesStruct). t .len1) (c .no-tries2 .ensures)), omega (arith, ap (λ (t : TriesStruct). t .len2) (c .no-tries2 .ensures))),
+returns-3 c =
+    let run = c .before .before .before .before .before .before .args .run .now in
+    let at = c .before .before .before .before .before .before .args .at in
+    let command = c .before .before .before .before .before .before .args .command in
+    let a = c .before .before .before .before .attempt-at .result in
+    let is = sym (c .before .before .before .before .attempt-at .ensures .0) ∙ ap (attemptAs (logicalsAt run (a .len) at) (a .next) (a .why)) (c .before .enum-told3 .given .1) in (
+      λ start. ap (λ (t : TriesStruct). triesOf t run start) (c .no-tries2 .ensures) ∙ sym (ap (onSecond command (logicalsAt run (c .before .before .before .before .before .before .args .len) start)) is),
+      (
+        (λ start _. ready-zero command run start _ (ap (λ (t : TriesStruct). t .len1) (c .no-tries2 .ensures)), ready-zero command run _ _ (ap (λ (t : TriesStruct). t .len2) (c .no-tries2 .ensures))),
+        λ told. neither-not-twice (ap (λ (t : TriesStruct). t .tried) (c .no-tries2 .ensures)) told,
+      ),
     )
 
 pub second-try-spec : {M : Type 1} → statement M
@@ -76,11 +84,8 @@ second-try-spec =
     enum-told-2
     nacked-twice-requires
     no-tries-requires
-    enum-known-standing
+    enum-told-3
     no-tries-requires-2
-    same-length
     returns
-    same-length-2
     returns-2
-    same-length-3
     returns-3)

@@ -28,22 +28,19 @@ with-reply-requires : tie.Need-with-reply-requires
 with-reply-requires c κs = search needs
 
 returns : tie.Need-returns
-returns c = let k = sym (c .before .before .before .kind .ensures) ∙ c .before .enum-told .given .1 in
-    (λ command. c .without-reply .ensures .0 command (c .before .before .before .before .before .before .before .args .first .now) (c .before .before .before .before .before .before .before .args .second .now) ∙ sym (ap (onKind (c .before .before .before .before .before .before .before .args .commands) command (c .before .before .before .before .before .before .before .args .run .now) (c .before .before .before .before .before .before .before .args .at)) k), c .without-reply .ensures .1)
+returns c =
+    let k = sym (c .before .before .before .kind .ensures) ∙ c .before .enum-told .given .1 in
+    (λ command. c .without-reply .ensures .0 command ∙ sym (ap (onKind (c .before .before .before .before .before .args .commands) command (c .before .before .before .before .before .args .run .now) (c .before .before .before .before .before .args .at)) k), c .without-reply .ensures .1)
 
 returns-2 : tie.Need-returns-2
-returns-2 c = let k = sym (c .before .before .before .kind .ensures) ∙ c .before .enum-told2 .given .1 in
-    (λ command. c .without-reply2 .ensures .0 command (c .before .before .before .before .before .before .before .args .first .now) (c .before .before .before .before .before .before .before .args .second .now) ∙ sym (ap (onKind (c .before .before .before .before .before .before .before .args .commands) command (c .before .before .before .before .before .before .before .args .run .now) (c .before .before .before .before .before .before .before .args .at)) k), c .without-reply2 .ensures .1)
-
-same-length : tie.Need-same-length
-same-length c = search needs
-
-same-length-2 : tie.Need-same-length-2
-same-length-2 c = search needs
+returns-2 c =
+    let k = sym (c .before .before .before .kind .ensures) ∙ c .before .enum-told2 .given .1 in
+    (λ command. c .without-reply2 .ensures .0 command ∙ sym (ap (onKind (c .before .before .before .before .before .args .commands) command (c .before .before .before .before .before .args .run .now) (c .before .before .before .before .before .args .at)) k), c .without-reply2 .ensures .1)
 
 returns-3 : tie.Need-returns-3
-returns-3 c = let k = sym (c .before .before .before .before .before .before .before .before .before .kind .ensures) ∙ c .before .before .before .before .before .before .before .enum-told3 .given .1 in
-    (λ command. c .before .before .before .before .with-reply .ensures .0 command ∙ sym (ap (onKind (c .before .before .before .before .before .before .before .before .before .before .before .before .before .args .commands) command (c .before .before .before .before .before .before .before .before .before .before .before .before .before .args .run .now) (c .before .before .before .before .before .before .before .before .before .before .before .before .before .args .at)) k), c .before .before .before .before .with-reply .ensures .1)
+returns-3 c =
+    let k = sym (c .before .before .before .kind .ensures) ∙ c .before .enum-told3 .given .1 in
+    (λ command. c .with-reply .ensures .0 command ∙ sym (ap (onKind (c .before .before .before .before .before .args .commands) command (c .before .before .before .before .before .args .run .now) (c .before .before .before .before .before .args .at)) k), c .with-reply .ensures .1)
 
 pub after-command-spec : {M : Type 1} → statement M
 after-command-spec =
@@ -58,6 +55,4 @@ after-command-spec =
     with-reply-requires
     returns
     returns-2
-    same-length
-    same-length-2
     returns-3)

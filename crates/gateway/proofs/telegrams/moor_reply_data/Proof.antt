@@ -1,7 +1,7 @@
 -- `gateway::telegrams::moor_reply_data` meets its contract: the attempt picks the buffer.
 -- Assumes nothing.
 use mathlib.Core.Path.{sym, ap, _∙_}
-use Rattle.exchange.proofs.Data.{asked-first, asked-second, no-attempt}
+use Rattle.telegram.proofs.Data.{asked-first, asked-second, no-attempt}
 use Rattle.gateway.specs.Lent.{partForC}
 use borrow.Author.Needs.{needs}
 use Rattle.gateway.proofs.telegrams.moor_reply_data.Statement.{statement}

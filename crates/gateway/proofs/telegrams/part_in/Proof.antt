@@ -6,9 +6,9 @@ use mathlib.Core.List.{List}
 use Prim.Native.Nat.{ℕ}
 use native.Mathlib.Omega.{arith}
 use Rattle.lists.specs.Choice.{pick}
-use Rattle.exchange.proofs.Data.{held-within}
+use Rattle.telegram.proofs.Data.{held-within}
 use Rattle.boundary.specs.declared.MoorPart.{MoorPart}
-use Rattle.exchange.specs.Data.{behindLength, emptyStart}
+use Rattle.telegram.specs.Data.{behindLength, emptyStart}
 use Rattle.gateway.specs.Lent.{partForC}
 use borrow.Author.Needs.{needs}
 use Rattle.gateway.proofs.telegrams.part_in.Statement.{statement}

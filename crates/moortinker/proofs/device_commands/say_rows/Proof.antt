@@ -1,14 +1,12 @@
 -- `moortinker::device_commands::say_rows` is safe and ends.
 -- Assumes nothing.
-use mathlib.Core.Path.{_≡_}
-use Prim.Native.Nat.{_-_}
-use lib.ListN.{length}
+use Prim.Native.Nat.{_≤_, _-_}
 use borrow.Author.Needs.{needs}
 use Rattle.moortinker.proofs.device_commands.say_rows.Statement.{statement}
 use Rattle.moortinker.proofs.device_commands.say_rows.Tie as tie
 
 abbrev Inv-loop : tie.InvT-loop
-Inv-loop n serials addresses marks page₀ used at₀ i₀ page at i = length page ≡ length page₀
+Inv-loop n serials addresses marks page₀ used at₀ i₀ page at i = i ≤ n
 
 abbrev μ-loop : tie.MeasureT-loop
 μ-loop n serials addresses marks page₀ used at₀ i₀ page at i = n - i
@@ -28,9 +26,6 @@ loop-less c = search needs
 loop-again : tie.Need-loop-again Inv-loop μ-loop
 loop-again c = search needs
 
-same-length : tie.Need-same-length Inv-loop μ-loop
-same-length c = search needs
-
 returns : tie.Need-returns Inv-loop μ-loop
 returns c = search needs
 
@@ -45,5 +40,4 @@ say-rows-spec =
     add-i
     loop-less
     loop-again
-    same-length
     returns)

@@ -1,14 +1,13 @@
 -- `moortinker::say::bytes` is safe and ends.
 -- Assumes nothing.
-use mathlib.Core.Path.{_≡_}
-use Prim.Native.Nat.{_-_}
+use Prim.Native.Nat.{_≤_, _-_}
 use lib.ListN.{length}
 use borrow.Author.Needs.{needs}
 use Rattle.moortinker.proofs.say.bytes.Statement.{statement}
 use Rattle.moortinker.proofs.say.bytes.Tie as tie
 
 abbrev Inv-loop : tie.InvT-loop
-Inv-loop page₀ used list n₀ i₀ page n i = length page ≡ length page₀
+Inv-loop page₀ used list n₀ i₀ page n i = i ≤ length list
 
 abbrev μ-loop : tie.MeasureT-loop
 μ-loop page₀ used list n₀ i₀ page n i = length list - i
@@ -34,9 +33,6 @@ loop-less c = search needs
 loop-again : tie.Need-loop-again Inv-loop μ-loop
 loop-again c = search needs
 
-same-length : tie.Need-same-length Inv-loop μ-loop
-same-length c = search needs
-
 returns : tie.Need-returns Inv-loop μ-loop
 returns c = search needs
 
@@ -53,5 +49,4 @@ bytes-spec =
     add-i
     loop-less
     loop-again
-    same-length
     returns)

@@ -1,0 +1,64 @@
+-- `moortinker::names::words_behind` is safe and ends.
+-- Assumes nothing.
+use Prim.Native.Nat.{_≤_, _-_}
+use lib.ListN.{length}
+use borrow.Author.Needs.{needs}
+use Rattle.moortinker.proofs.names.words_behind.Statement.{statement}
+use Rattle.moortinker.proofs.names.words_behind.Tie as tie
+
+abbrev Inv-loop : tie.InvT-loop
+Inv-loop lines number page₀ used i₀ t6 page i = i ≤ length lines
+
+abbrev μ-loop : tie.MeasureT-loop
+μ-loop lines number page₀ used i₀ t6 page i = length lines - i
+
+loop-holds : tie.Need-loop-holds Inv-loop μ-loop
+loop-holds c = search needs
+
+begins-requires : tie.Need-begins-requires Inv-loop μ-loop
+begins-requires c κs = search needs
+
+behind-requires : tie.Need-behind-requires Inv-loop μ-loop
+behind-requires c κs = search needs
+
+text-requires : tie.Need-text-requires Inv-loop μ-loop
+text-requires c κs = search needs
+
+returns : tie.Need-returns Inv-loop μ-loop
+returns c = search needs
+
+add-i : tie.Need-add-i Inv-loop μ-loop
+add-i c = search needs
+
+loop-less : tie.Need-loop-less Inv-loop μ-loop
+loop-less c = search needs
+
+loop-again : tie.Need-loop-again Inv-loop μ-loop
+loop-again c = search needs
+
+slice-aggregate-text : tie.Need-slice-aggregate-text Inv-loop μ-loop
+slice-aggregate-text c = search needs
+
+text-requires-2 : tie.Need-text-requires-2 Inv-loop μ-loop
+text-requires-2 c κs = search needs
+
+returns-2 : tie.Need-returns-2 Inv-loop μ-loop
+returns-2 c = search needs
+
+pub words-behind-spec : {M : Type 1} → statement M
+words-behind-spec =
+    tie.close
+    (tie.spec
+    Inv-loop
+    μ-loop
+    loop-holds
+    begins-requires
+    behind-requires
+    text-requires
+    returns
+    add-i
+    loop-less
+    loop-again
+    slice-aggregate-text
+    text-requires-2
+    returns-2)

@@ -1,0 +1,56 @@
+-- `moortinker::say::filled` is safe and ends.
+-- Assumes nothing.
+use Prim.Native.Nat.{_≤_, _-_}
+use lib.ListN.{length}
+use borrow.Author.Needs.{needs}
+use Rattle.moortinker.proofs.say.filled.Statement.{statement}
+use Rattle.moortinker.proofs.say.filled.Tie as tie
+
+abbrev Inv-loop : tie.InvT-loop
+Inv-loop page₀ used text numbers n₀ taken₀ i₀ page n taken i = i ≤ length text
+
+abbrev μ-loop : tie.MeasureT-loop
+μ-loop page₀ used text numbers n₀ taken₀ i₀ page n taken i = length text - i
+
+loop-holds : tie.Need-loop-holds Inv-loop μ-loop
+loop-holds c = search needs
+
+shared-slice-read-b : tie.Need-shared-slice-read-b Inv-loop μ-loop
+shared-slice-read-b c = search needs
+
+number-at-requires : tie.Need-number-at-requires Inv-loop μ-loop
+number-at-requires c κs = search needs
+
+piece-requires : tie.Need-piece-requires Inv-loop μ-loop
+piece-requires c κs = search needs
+
+taken-behind-requires : tie.Need-taken-behind-requires Inv-loop μ-loop
+taken-behind-requires c κs = search needs
+
+add-i : tie.Need-add-i Inv-loop μ-loop
+add-i c = search needs
+
+loop-less : tie.Need-loop-less Inv-loop μ-loop
+loop-less c = search needs
+
+loop-again : tie.Need-loop-again Inv-loop μ-loop
+loop-again c = search needs
+
+returns : tie.Need-returns Inv-loop μ-loop
+returns c = search needs
+
+pub filled-spec : {M : Type 1} → statement M
+filled-spec =
+    tie.close
+    (tie.spec
+    Inv-loop
+    μ-loop
+    loop-holds
+    shared-slice-read-b
+    number-at-requires
+    piece-requires
+    taken-behind-requires
+    add-i
+    loop-less
+    loop-again
+    returns)

@@ -1,0 +1,7 @@
+-- Laws of telegrams that belong to no one function.
+pub mod CollectTurn
+pub mod CollectedOnWire
+pub mod HeadJudged
+pub mod TelegramOnWire
+pub mod Extent
+pub mod Data
