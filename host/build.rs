@@ -1,4 +1,4 @@
-//! Finds libgateway.a and links it: in the folder that MOORTINKER_ARCHIVE_DIR
+//! Finds libmoortinker.a and links it: in the folder that MOORTINKER_ARCHIVE_DIR
 //! names, else in target/staticlib of the repository.
 
 use std::env;
@@ -8,15 +8,15 @@ use std::process::exit;
 fn main() {
     println!("cargo:rerun-if-env-changed=MOORTINKER_ARCHIVE_DIR");
     let folder = archive_folder();
-    let archive = folder.join("libgateway.a");
+    let archive = folder.join("libmoortinker.a");
     println!("cargo:rerun-if-changed={}", archive.display());
     if !archive.is_file() {
         eprintln!("{} is missing", archive.display());
-        eprintln!("run rt staticlib gateway at the repository's root");
+        eprintln!("run host/archive, which proves and writes it");
         exit(1);
     }
     println!("cargo:rustc-link-search=native={}", folder.display());
-    println!("cargo:rustc-link-lib=static=gateway");
+    println!("cargo:rustc-link-lib=static=moortinker");
 }
 
 fn archive_folder() -> PathBuf {

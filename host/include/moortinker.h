@@ -2,7 +2,7 @@
  * moortinker.h - the bus core of a plant-room gateway: eBUS to the boilers,
  * Fast Modbus to the sensors.
  *
- * Link with libgateway.a (`rt staticlib gateway` writes it to
+ * Link with libmoortinker.a (`host/archive` writes it to
  * target/staticlib/). x86-64 Linux. The library keeps no state, allocates
  * nothing and calls nothing but memcpy and memset.
  *

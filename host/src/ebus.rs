@@ -84,7 +84,7 @@ impl Kind {
             sys::MOOR_BROADCAST => Kind::Broadcast,
             sys::MOOR_INITIATOR_INITIATOR => Kind::InitiatorInitiator,
             sys::MOOR_INITIATOR_TARGET => Kind::InitiatorTarget,
-            _ => unreachable!("libgateway.a gives one of three kinds"),
+            _ => unreachable!("libmoortinker.a gives one of three kinds"),
         }
     }
 }

@@ -2,7 +2,7 @@
 //! ([`ebus`]), Fast Modbus to the sensors ([`modbus`] for the scan frames,
 //! [`devices`] for the devices' side of a scan and whole scans).
 //!
-//! The work is done by `libgateway.a`, whose functions are proved to return
+//! The work is done by `libmoortinker.a`, whose functions are proved to return
 //! for any bytes of any length, to touch only what they were lent, and to give
 //! exactly the answer of the rules. This crate adds types, and slices in place
 //! of pointers; it decides nothing itself.

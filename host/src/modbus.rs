@@ -123,7 +123,7 @@ pub fn read_request(input: &[u8]) -> Result<Request, Refusal> {
     match read.request {
         sys::MOOR_START => Ok(Request::Start),
         sys::MOOR_CONTINUE => Ok(Request::Continue),
-        _ => unreachable!("libgateway.a reads one of two requests"),
+        _ => unreachable!("libmoortinker.a reads one of two requests"),
     }
 }
 
@@ -157,7 +157,7 @@ pub fn read_answer(input: &[u8]) -> Result<Answer, Refusal> {
             address: read.address,
         }),
         sys::MOOR_END => Ok(Answer::End),
-        _ => unreachable!("libgateway.a reads one of two answers"),
+        _ => unreachable!("libmoortinker.a reads one of two answers"),
     }
 }
 

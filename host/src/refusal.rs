@@ -173,7 +173,7 @@ impl Refusal {
             return Ok(());
         }
         let reason = Reason::from_number(number)
-            .expect("libgateway.a refuses only with the numbers of its header");
+            .expect("libmoortinker.a refuses only with the numbers of its header");
         Err(Refusal { reason, place })
     }
 }

@@ -6,13 +6,16 @@ use lib.ListN.{length, replicate}
 use Rattle.lists.specs.Starting.{starting}
 use Rattle.refusal.specs.Numbers.{Numbers, value, writtenNumbers}
 use Rattle.refusal.specs.declared.Written.{Written}
-use Rattle.ebus.specs.Logical.{logicalNumbers}
-use Rattle.ebus.specs.declared.escape.Logical.{Logical}
+use Rattle.escapes.specs.Logical.{logicalNumbers}
+use Rattle.escapes.specs.declared.Logical.{Logical}
 use Rattle.telegram.specs.Telegram.{Telegram, read, unread}
+use Rattle.replies.specs.Data.{Part}
+use Rattle.telegram.specs.declared.Telegram.{Telegram as ByValue}
 use Rattle.exchange.specs.declared.judge.Judged.{Judged}
-use Rattle.fastmodbus.specs.Reading.{requestNumbers, answerNumbers}
-use Rattle.fastmodbus.specs.declared.RequestRead.{RequestRead}
-use Rattle.fastmodbus.specs.declared.AnswerRead.{AnswerRead}
+use Rattle.requests.specs.Reading.{requestNumbers}
+use Rattle.answers.specs.Reading.{answerNumbers}
+use Rattle.requests.specs.declared.RequestRead.{RequestRead}
+use Rattle.answers.specs.declared.AnswerRead.{AnswerRead}
 use Rattle.arbitration.specs.declared.Decided.{Decided}
 use Rattle.devices.specs.declared.Response.{Response}
 use Rattle.devices.specs.declared.Scanned.{Scanned}
@@ -23,6 +26,7 @@ use Rattle.devices.specs.WholeScan.{scannedNumbers}
 use Rattle.boundary.specs.declared.MoorWritten.{MoorWritten}
 use Rattle.boundary.specs.declared.MoorLogical.{MoorLogical}
 use Rattle.boundary.specs.declared.MoorTelegram.{MoorTelegram}
+use Rattle.boundary.specs.declared.MoorPart.{MoorPart}
 use Rattle.boundary.specs.declared.MoorJudged.{MoorJudged}
 use Rattle.boundary.specs.declared.MoorRequestRead.{MoorRequestRead}
 use Rattle.boundary.specs.declared.MoorAnswerRead.{MoorAnswerRead}
@@ -50,6 +54,15 @@ telegramForC (read bs last next) =
     record { number = 0; place = 0; length = length bs; last = last; next = next; bytes = starting bs (replicate 22 0) }
 telegramForC (unread why) =
     record { number = why .number; place = why .place; length = 0; last = 0; next = 0; bytes = replicate 22 0 }
+
+-- the same of the struct that the reader gives: its refusal's number and place are 0 and 0 where it was read
+abbrev pub byValueForC : ByValue → MoorTelegram
+byValueForC t =
+    record { number = t .why .number; place = t .why .place; length = t .len; last = t .last; next = t .next; bytes = t .bytes }
+
+-- a part of a reply buffer: C cannot take a part of a slice
+abbrev pub partForC : Part → MoorPart
+partForC part = record { attempt = part .attempt; start = part .start; length = part .size }
 
 abbrev pub judgedForC : Judged → MoorJudged
 judgedForC x =

@@ -1,22 +1,22 @@
 // The answers as structs that C can take, and how the answers of the crates below become them; a
-// telegram and a part of a reply are made in `gateway`.
+// telegram and a part of a reply are made in `telegramcalls`.
 //
 // In an answer of a call that can refuse the number is 0 where the call was accepted, and else rule
 // N1's number with the place beside it; the other values are then 0.
+use addresses::ExchangeKind;
+use answers::AnswerRead;
 use arbitration::Decided;
 use devices::Response;
 use devices::Scanned;
-use ebus::address::ExchangeKind;
-use ebus::escape::Logical;
+use escapes::Logical;
 use exchange::judge::Judged;
-use fastmodbus::AnswerRead;
-use fastmodbus::Request;
-use fastmodbus::RequestRead;
 use refusal::Refusal;
 use refusal::Written;
+use requests::Request;
+use requests::RequestRead;
 ghost use mathlib.Core.Path.{_≡_};
 ghost use Prim.Native.Nat.{_-_};
-ghost use Rattle.ebus.specs.Address.{kindNumber};
+ghost use Rattle.addresses.specs.Address.{kindNumber};
 ghost use Rattle.boundary.specs.ForC.{writtenForC, responseForC, decidedForC, logicalForC, judgedForC, requestForC, answerForC, foundBy, scannedForC};
 
 // The numbers of the kinds, of requests and answers, and of a scan's end.

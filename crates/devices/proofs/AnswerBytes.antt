@@ -8,12 +8,13 @@ use borrow.Rule.Slice.PartMut.{putMid, midOf}
 use lib.ListN.{length, take, drop, replicate, length-append, length-drop, length-replicate, drop-of-length-le}
 use lib.Seq.{take-at, drop-at, drop-drop}
 use Rattle.lists.specs.Starting.{starting}
-use Rattle.fastmodbus.specs.Layout.{shortest, foundLength, foundFrame, endFrame}
-use Rattle.fastmodbus.specs.Reading.{fill}
-use Rattle.fastmodbus.proofs.FrameLengths.{length-found, length-end}
-use Rattle.devices.specs.Request.{windows}
+use Rattle.framing.specs.Layout.{shortest, foundLength}
+use Rattle.answers.specs.Layout.{foundFrame, endFrame}
+use Rattle.answers.specs.Reading.{fill}
+use Rattle.answers.proofs.FrameLengths.{length-found, length-end}
+use Rattle.turns.specs.Request.{windows}
 use Rattle.devices.specs.Calls.{answerRoom, answerBytes}
-use Rattle.devices.specs.declared.bus.Answer.the-variants.{Silence, Found, End}
+use Rattle.turns.specs.declared.Answer.the-variants.{Silence, Found, End}
 use Rattle.lists.proofs.All.{whole-rest}
 
 -- the part behind the FF is what is left of the buffer

@@ -7,23 +7,23 @@ use Prim.Native.Nat.{ℕ, min}
 use lib.ListN.{length}
 use Rattle.lists.specs.Starting.{starting}
 use Rattle.refusal.specs.declared.Refusal.{Refusal}
-use Rattle.fastmodbus.specs.declared.Request.{Request}
-use Rattle.fastmodbus.specs.declared.Request.the-variants.{Start}
-use Rattle.fastmodbus.specs.declared.RequestRead.{RequestRead}
-use Rattle.fastmodbus.specs.declared.RequestRead.the-variants.{Asked, Refused as RequestRefused}
+use Rattle.requests.specs.declared.Request.{Request}
+use Rattle.requests.specs.declared.Request.the-variants.{Start}
+use Rattle.requests.specs.declared.RequestRead.{RequestRead}
+use Rattle.requests.specs.declared.RequestRead.the-variants.{Asked, Refused as RequestRefused}
 use Rattle.table.specs.Table.{Table, devices, valid}
-use Rattle.devices.specs.Request.{respond}
-use Rattle.devices.specs.Guard.{guard}
+use Rattle.turns.specs.Request.{respond}
+use Rattle.guard.specs.Guard.{guard}
 use Rattle.devices.specs.Calls.{Answering, Gives, answerBytes, responseTo, answerRoom, behind, reading, refusing, answering, askCall}
 use Rattle.devices.specs.WholeScan.{Scanning, GivesScan, serialsHeard, scanFrom, concluded, scanRefusing, scanBehind, scanCall}
-use Rattle.devices.specs.Inner.{GivesTurn}
-use Rattle.devices.specs.declared.bus.Answer.{Answer}
+use Rattle.turns.specs.Inner.{GivesTurn}
+use Rattle.turns.specs.declared.Answer.{Answer}
 use Rattle.devices.specs.declared.Response.{Response}
 use Rattle.devices.specs.declared.Response.the-variants.{Refused as ResponseRefused}
 use Rattle.devices.specs.declared.Scanned.{Scanned}
 use Rattle.devices.specs.declared.Scanned.the-variants.{Refused as ScanRefused}
-use Rattle.devices.specs.declared.guard.Guard.{Guard}
-use Rattle.devices.specs.declared.guard.Guard.the-variants.{Passed, Refused}
+use Rattle.guard.specs.declared.Guard.{Guard}
+use Rattle.guard.specs.declared.Guard.the-variants.{Passed, Refused}
 
 -- ---- a request as it was read
 

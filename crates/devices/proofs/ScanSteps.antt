@@ -9,19 +9,19 @@ use native.Mathlib.Omega.{arith}
 use lib.ListN.{length, getD, set}
 use lib.Seq.{sets}
 use borrow.Author.Tests.{ne-eqb}
-use Rattle.fastmodbus.specs.declared.Request.{Request}
-use Rattle.fastmodbus.specs.declared.Request.the-variants.{Continue}
+use Rattle.requests.specs.declared.Request.{Request}
+use Rattle.requests.specs.declared.Request.the-variants.{Continue}
 use Rattle.table.specs.Table.{Table, devices, valid}
-use Rattle.devices.specs.Request.{Turn, contest, contend, tableAfter, standing, respond}
+use Rattle.turns.specs.Request.{Turn, contest, contend, tableAfter, standing, respond}
 use Rattle.devices.specs.WholeScan.{onward, scanFrom, leftBy, serialsHeard, addressesHeard, closing}
 use Rattle.lists.specs.Tests.{howMany}
-use Rattle.devices.specs.declared.bus.Answer.{Answer}
-use Rattle.devices.specs.declared.bus.Answer.the-variants.{Silence, Found, End}
+use Rattle.turns.specs.declared.Answer.{Answer}
+use Rattle.turns.specs.declared.Answer.the-variants.{Silence, Found, End}
 use Rattle.devices.specs.declared.Scanned.{Scanned}
 use Rattle.devices.specs.declared.Scanned.the-variants.{Complete, Nobody, Unfinished}
 use Rattle.table.proofs.Meaning.{tested}
-use Rattle.devices.proofs.TurnCases.{by-contest, place-inside}
-use Rattle.devices.proofs.TurnKeeps.{standing-valid, standing-devices}
+use Rattle.turns.proofs.TurnCases.{by-contest, place-inside}
+use Rattle.turns.proofs.TurnKeeps.{standing-valid, standing-devices}
 use Rattle.lists.proofs.Counting.{isMarked, howMany-not-all, howMany-set}
 
 -- a turn whose answer is known

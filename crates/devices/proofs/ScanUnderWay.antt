@@ -14,18 +14,18 @@ use lib.Seq.{sets, sets-eq}
 use borrow.Author.Tests.{ne-eqb}
 use Rattle.lists.specs.Choice.{pick}
 use Rattle.lists.specs.Starting.{starting}
-use Rattle.fastmodbus.specs.declared.Request.{Request}
-use Rattle.fastmodbus.specs.declared.Request.the-variants.{Start, Continue}
+use Rattle.requests.specs.declared.Request.{Request}
+use Rattle.requests.specs.declared.Request.the-variants.{Start, Continue}
 use Rattle.table.specs.Table.{Table, devices, columns, valid}
-use Rattle.devices.specs.Request.{Turn, standing, respond}
+use Rattle.turns.specs.Request.{Turn, standing, respond}
 use Rattle.devices.specs.WholeScan.{onward, scanFrom, serialsHeard, addressesHeard, closing, GivesScan, concluded}
 use Rattle.lists.specs.Tests.{howMany}
-use Rattle.devices.specs.declared.bus.Answer.{Answer}
-use Rattle.devices.specs.declared.bus.Answer.the-variants.{Silence, Found, End}
+use Rattle.turns.specs.declared.Answer.{Answer}
+use Rattle.turns.specs.declared.Answer.the-variants.{Silence, Found, End}
 use Rattle.devices.specs.declared.Scanned.{Scanned}
 use Rattle.devices.specs.declared.Scanned.the-variants.{Complete, Nobody, Unfinished}
-use Rattle.devices.proofs.TurnCases.{by-answer}
-use Rattle.devices.proofs.TurnKeeps.{standing-valid, standing-devices, respond-valid, respond-devices}
+use Rattle.turns.proofs.TurnCases.{by-answer}
+use Rattle.turns.proofs.TurnKeeps.{standing-valid, standing-devices, respond-valid, respond-devices}
 use Rattle.lists.proofs.Counting.{isMarked, howMany-length, howMany-cleared}
 use Rattle.table.proofs.Meaning.{tested}
 use Rattle.devices.proofs.ScanSteps.{answered, Finish, finish, finished, finish-found, finish-ended, finish-silent, finish-none, respond-more}

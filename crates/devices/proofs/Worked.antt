@@ -6,8 +6,8 @@ use Prim.Native.Nat.{ℕ, suc}
 use Rattle.lists.specs.Tests.{any, keep, all, different, position}
 use Rattle.arbitration.specs.Contest.{remaining, dominantWindows, winner, decided}
 use Rattle.table.specs.Table.{Table, columns, valid}
-use Rattle.devices.specs.Request.{keyWith, forEach, contend, respond}
-use Rattle.devices.specs.Guard.{guard}
+use Rattle.turns.specs.Request.{keyWith, forEach, contend, respond}
+use Rattle.guard.specs.Guard.{guard}
 use Rattle.devices.specs.WholeScan.{scanFrom, leftBy, serialsHeard, addressesHeard, closing, scanCall}
 use Rattle.devices.specs.declared.Scanned.the-variants.{Complete, Nobody, Unfinished}
 

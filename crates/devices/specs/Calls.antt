@@ -1,5 +1,5 @@
 -- The calls: a request as it was read, and as three uses of it a start, a continue, and a raw frame offered to the devices.
--- Each is the one operation of Request.antt behind one guard. Rules D6, D7, N1.
+-- Each is the one operation on a request (turns/specs/Request.antt) behind one guard. Rules D6, D7, N1.
 -- Assumes nothing.
 use mathlib.Core.Path.{_≡_}
 use Prim.Native.Nat.{ℕ}
@@ -8,19 +8,20 @@ use lib.ListN.{length, replicate}
 use Rattle.lists.specs.Starting.{starting}
 use Rattle.refusal.specs.Numbers.{Numbers, acceptedWith, refusedWith}
 use Rattle.refusal.specs.declared.Refusal.{Refusal}
-use Rattle.fastmodbus.specs.Layout.{foundFrame, endFrame}
-use Rattle.fastmodbus.specs.Reading.{fill, readRequest}
-use Rattle.fastmodbus.specs.declared.Request.{Request}
-use Rattle.fastmodbus.specs.declared.Request.the-variants.{Start, Continue}
-use Rattle.fastmodbus.specs.declared.RequestRead.{RequestRead}
-use Rattle.fastmodbus.specs.declared.RequestRead.the-variants.{Asked, Refused as RequestRefused}
+use Rattle.answers.specs.Layout.{foundFrame, endFrame}
+use Rattle.requests.specs.Reading.{readRequest}
+use Rattle.answers.specs.Reading.{fill}
+use Rattle.requests.specs.declared.Request.{Request}
+use Rattle.requests.specs.declared.Request.the-variants.{Start, Continue}
+use Rattle.requests.specs.declared.RequestRead.{RequestRead}
+use Rattle.requests.specs.declared.RequestRead.the-variants.{Asked, Refused as RequestRefused}
 use Rattle.table.specs.Table.{Table, valid}
-use Rattle.devices.specs.Request.{Turn, respond}
-use Rattle.devices.specs.Guard.{guard}
-use Rattle.devices.specs.declared.bus.Answer.{Answer}
-use Rattle.devices.specs.declared.bus.Answer.the-variants.{Silence, Found, End}
-use Rattle.devices.specs.declared.guard.Guard.{Guard}
-use Rattle.devices.specs.declared.guard.Guard.the-variants.{Passed, Refused as GuardRefused}
+use Rattle.turns.specs.Request.{Turn, respond}
+use Rattle.guard.specs.Guard.{guard}
+use Rattle.turns.specs.declared.Answer.{Answer}
+use Rattle.turns.specs.declared.Answer.the-variants.{Silence, Found, End}
+use Rattle.guard.specs.declared.Guard.{Guard}
+use Rattle.guard.specs.declared.Guard.the-variants.{Passed, Refused as GuardRefused}
 use Rattle.devices.specs.declared.Response.{Response}
 use Rattle.devices.specs.declared.Response.the-variants.{Answered, Silent, Refused}
 

@@ -1,8 +1,3 @@
--- The devices' side of a scan: one request, the guard, the calls, and the whole scan.
-pub mod Request
-pub mod Guard
+-- The devices' side of a scan: the calls, and the whole scan.
 pub mod Calls
 pub mod WholeScan
-pub mod Rank
-pub mod MarkBits
-pub mod Inner

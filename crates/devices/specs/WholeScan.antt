@@ -7,15 +7,15 @@ use lib.ListN.{length}
 use Rattle.lists.specs.Starting.{starting}
 use Rattle.refusal.specs.Numbers.{Numbers, acceptedWith, refusedWith}
 use Rattle.refusal.specs.declared.Refusal.{Refusal}
-use Rattle.fastmodbus.specs.declared.Request.{Request}
-use Rattle.fastmodbus.specs.declared.Request.the-variants.{Start, Continue}
+use Rattle.requests.specs.declared.Request.{Request}
+use Rattle.requests.specs.declared.Request.the-variants.{Start, Continue}
 use Rattle.table.specs.Table.{Table, devices, valid}
-use Rattle.devices.specs.Request.{Turn, respond}
-use Rattle.devices.specs.Guard.{guard}
-use Rattle.devices.specs.declared.bus.Answer.{Answer}
-use Rattle.devices.specs.declared.bus.Answer.the-variants.{Silence, Found, End}
-use Rattle.devices.specs.declared.guard.Guard.{Guard}
-use Rattle.devices.specs.declared.guard.Guard.the-variants.{Passed, Refused as GuardRefused}
+use Rattle.turns.specs.Request.{Turn, respond}
+use Rattle.guard.specs.Guard.{guard}
+use Rattle.turns.specs.declared.Answer.{Answer}
+use Rattle.turns.specs.declared.Answer.the-variants.{Silence, Found, End}
+use Rattle.guard.specs.declared.Guard.{Guard}
+use Rattle.guard.specs.declared.Guard.the-variants.{Passed, Refused as GuardRefused}
 use Rattle.devices.specs.declared.Scanned.{Scanned}
 use Rattle.devices.specs.declared.Scanned.the-variants.{Complete, Nobody, Unfinished, Refused}
 

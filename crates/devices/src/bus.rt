@@ -1,8 +1,9 @@
 // One request on the bus: the devices' keys contend, and the winner answers.
 use arbitration::Decided;
 use arbitration::contest;
-use fastmodbus::Request;
+use requests::Request;
 use table::MOST_DEVICES;
+use turns::Answer;
 ghost use mathlib.Core.Path.{_≡_};
 ghost use mathlib.Core.Bool.{true};
 ghost use Prim.Native.Nat.{_≤_, _<_};
@@ -11,29 +12,15 @@ ghost use Rattle.lists.specs.Starting.{starting};
 ghost use Rattle.lists.specs.Tests.{all};
 ghost use Rattle.table.specs.Table.{columns, serialRight, serialLimit, mostDevices, valid};
 ghost use Rattle.arbitration.specs.Contest.{decided};
-ghost use Rattle.fastmodbus.specs.declared.Request.the-variants.{Continue};
-ghost use Rattle.devices.specs.Request.{key, keysOf, windows, respond};
-ghost use Rattle.devices.specs.Inner.{GivesTurn};
+ghost use Rattle.requests.specs.declared.Request.the-variants.{Continue};
+ghost use Rattle.turns.specs.Request.{key, keysOf, windows, respond};
+ghost use Rattle.turns.specs.Inner.{GivesTurn};
 
 // The mark bits of a scanned device, above its serial.
 const SCANNED: u32 = 0xF000_0000;
 
 // A contest has so many windows: one for each bit of a key.
 const WINDOWS: u32 = 32;
-
-// What the devices put on the bus for a request: one FF for each dominant window, then the frame of
-// a device found or of the end.
-pub enum Answer {
-    Silence,
-    Found {
-        dominant: usize,
-        serial: u32,
-        address: u8,
-    },
-    End {
-        dominant: usize,
-    },
-}
 
 // The key of a device.
 fn key(mark: u8, serial: u32) -> u32

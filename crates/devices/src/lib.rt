@@ -3,14 +3,13 @@
 // Rules D4 to D8. The table is three lent columns. Every call checks what it
 // was lent before it changes anything: the room of its outputs first, then the table, then its input.
 mod bus;
-pub mod guard;
 mod trace;
 mod wire;
 
-use fastmodbus::Request;
-use fastmodbus::RequestRead;
 use guard::Guard;
 use refusal::Refusal;
+use requests::Request;
+use requests::RequestRead;
 ghost use mathlib.Mathlib.Logic.Function.Defs.{id, const};
 ghost use Prim.Native.Nat.{ℕ};
 ghost use Rattle.table.specs.Table.{columns};
@@ -88,7 +87,7 @@ pub fn offer(
 ) -> Response
     ensures { λ r. ⌜ Gives id (offerCall (now (frame .entry)) (now (answer .entry)) (columns (now (serials .entry)) (now (addresses .entry)) (now (marks .entry)))) r (now (answer .exit)) (columns (now (serials .entry)) (now (addresses .entry)) (now (marks .exit))) ⌝ }
 {
-    let read = fastmodbus::read_request(frame);
+    let read = requests::read_request(frame);
     ask(read, serials, addresses, marks, answer)
 }
 

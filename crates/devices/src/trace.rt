@@ -1,15 +1,15 @@
 // The requests of a whole scan, under the caller's cap.
 use crate::Scanned;
 use crate::bus;
-use crate::bus::Answer;
-use fastmodbus::Request;
+use requests::Request;
+use turns::Answer;
 ghost use mathlib.Core.Path.{_≡_};
 ghost use mathlib.Core.Bool.{true};
 ghost use Prim.Native.Nat.{ℕ, _≤_};
 ghost use lib.Dec.{eqb};
 ghost use lib.ListN.{length};
 ghost use Rattle.lists.specs.Choice.{pick};
-ghost use Rattle.fastmodbus.specs.declared.Request.the-variants.{Start, Continue};
+ghost use Rattle.requests.specs.declared.Request.the-variants.{Start, Continue};
 ghost use mathlib.Mathlib.Logic.Function.Defs.{const};
 ghost use Rattle.table.specs.Table.{columns, valid};
 ghost use Rattle.devices.specs.WholeScan.{GivesScan, scanFrom, concluded};

@@ -1,20 +1,20 @@
 // The devices' answer as the bytes that it puts on the bus.
 use crate::Response;
-use crate::bus::Answer;
-use fastmodbus::END_LENGTH;
-use fastmodbus::FILL;
-use fastmodbus::FOUND_LENGTH;
+use answers::FILL;
+use framing::END_LENGTH;
+use framing::FOUND_LENGTH;
+use turns::Answer;
 ghost use mathlib.Core.Path.{_≡_};
 ghost use mathlib.Core.List.{_++_};
 ghost use Prim.Native.Nat.{_≤_, _<_};
 ghost use lib.ListN.{length, replicate, drop};
 ghost use Rattle.lists.specs.Starting.{starting};
-ghost use Rattle.fastmodbus.specs.Reading.{fill};
+ghost use Rattle.answers.specs.Reading.{fill};
 ghost use Rattle.devices.specs.Calls.{answerBytes, responseTo, answerRoom};
-ghost use Rattle.devices.specs.Request.{windows};
+ghost use Rattle.turns.specs.Request.{windows};
 ghost use Rattle.table.specs.Table.{serialLimit};
-ghost use Rattle.devices.specs.declared.bus.Answer.the-variants.{Found, End};
-ghost use Rattle.devices.specs.Inner.{Writable};
+ghost use Rattle.turns.specs.declared.Answer.the-variants.{Found, End};
+ghost use Rattle.turns.specs.Inner.{Writable};
 
 // Puts so many FF at the start of the answer.
 fn put_fill(count: usize, answer: &mut [u8])
@@ -35,7 +35,7 @@ fn write_found(dominant: usize, serial: u32, address: u8, answer: &mut [u8]) -> 
     ensures { λ r. ⌜ (r ≡ length (answerBytes (Found dominant serial address))) × (now (answer .exit) ≡ starting (answerBytes (Found dominant serial address)) (now (answer .entry))) ⌝ }
 {
     put_fill(dominant, answer);
-    fastmodbus::write_found(serial, address, &mut answer[dominant..]);
+    answers::write_found(serial, address, &mut answer[dominant..]);
     dominant + FOUND_LENGTH
 }
 
@@ -45,7 +45,7 @@ fn write_end(dominant: usize, answer: &mut [u8]) -> usize
     ensures { λ r. ⌜ (r ≡ length (answerBytes (End dominant))) × (now (answer .exit) ≡ starting (answerBytes (End dominant)) (now (answer .entry))) ⌝ }
 {
     put_fill(dominant, answer);
-    fastmodbus::write_end(&mut answer[dominant..]);
+    answers::write_end(&mut answer[dominant..]);
     dominant + END_LENGTH
 }
 

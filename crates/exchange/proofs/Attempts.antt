@@ -9,7 +9,7 @@ use lib.Dec.{eqb, ltb}
 use lib.ListN.{length, getD}
 use borrow.Author.Tests.{ltb-true}
 use Rattle.lists.proofs.Cases.{pick-cases}
-use Rattle.ebus.specs.Escape.{syn}
+use Rattle.escapes.specs.Escape.{syn}
 use Rattle.telegram.specs.Telegram.{Telegram, read, unread, checkRight, telegramAt}
 use Rattle.exchange.specs.declared.attempt.Tried.{Tried}
 use Rattle.exchange.specs.declared.attempt.Tried.the-variants.{Once, Twice, Neither}

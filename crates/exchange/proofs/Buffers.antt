@@ -12,11 +12,11 @@ use Rattle.refusal.specs.Number.{outputShort, at-place}
 use Rattle.lists.specs.Starting.{starting}
 use Rattle.refusal.specs.declared.Refusal.{Refusal}
 use Rattle.lists.proofs.Cases.{both, both-first, both-second}
-use Rattle.ebus.specs.declared.address.ExchangeKind.{ExchangeKind}
+use Rattle.addresses.specs.declared.ExchangeKind.{ExchangeKind}
 use Rattle.exchange.specs.declared.judge.Judged.{Judged}
 use Rattle.exchange.specs.declared.judge.Judged.the-variants.{Accepted, Refused}
 use Rattle.exchange.specs.declared.judge.Replies.{Replies as RepliesStruct}
-use Rattle.ebus.specs.Logical.{logicalsAt}
+use Rattle.escapes.specs.Logical.{logicalsAt}
 use Rattle.telegram.specs.Telegram.{commandRoom, replyRoom}
 use Rattle.exchange.specs.Exchange.{Outcome, accepted, rejected, exchange, rooms, judged}
 use Rattle.exchange.specs.View.{answered, commandOf, firstOf, secondOf, Judges}

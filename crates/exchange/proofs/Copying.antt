@@ -8,9 +8,9 @@ use native.Mathlib.Omega.{arith}
 use lib.ListN.{length, getD, take, drop, set}
 use Rattle.lists.specs.Starting.{starting}
 use Rattle.lists.proofs.Filling.{drop-next, head-within, head-is, rest-is, fill-next, starting-all, length-starting-take}
-use Rattle.ebus.specs.Escape.{esc, syn, escaped, expanded}
-use Rattle.ebus.proofs.Escaped.{escaped-plain, escaped-special}
-use Rattle.ebus.proofs.EscapeRoundTrip.{kinds}
+use Rattle.escapes.specs.Escape.{esc, syn, escaped, expanded}
+use Rattle.escapes.proofs.Escaped.{escaped-plain, escaped-special}
+use Rattle.escapes.proofs.EscapeRoundTrip.{kinds}
 
 -- the output starts with the first i of the bytes s, and the others stand at next
 pub record Copying (run s rest old out : List ℕ) (i next : ℕ) : Type 0 where

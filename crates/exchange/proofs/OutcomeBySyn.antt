@@ -3,7 +3,7 @@
 use mathlib.Core.Path.{_≡_, refl, ap, _∙_}
 use mathlib.Core.List.{List, []}
 use Prim.Native.Nat.{ℕ}
-use Rattle.ebus.specs.declared.address.ExchangeKind.{ExchangeKind}
+use Rattle.addresses.specs.declared.ExchangeKind.{ExchangeKind}
 use Rattle.exchange.specs.declared.judge.Judged.{Judged}
 use Rattle.exchange.specs.Exchange.{End, ended, open-still, onEnd}
 use Rattle.exchange.specs.View.{answered}

@@ -3,20 +3,15 @@
 use mathlib.Core.Path.{_≡_, refl, _∙_}
 use mathlib.Core.List.{List, [], _∷_}
 use Prim.Native.Nat.{ℕ, _≤_}
-use native.Mathlib.Omega.{arith}
-use lib.Dec.{lit≤}
 use Rattle.refusal.specs.Number.{busError, at-place}
-use Rattle.lists.specs.Starting.{starting}
 use Rattle.crc.specs.Register.{step, enter, bits}
-use Rattle.ebus.specs.Check.{ebusBytes, ebusCheck}
-use Rattle.ebus.specs.Escape.{escaped, expanded}
-use Rattle.ebus.specs.declared.address.ExchangeKind.the-variants.{InitiatorTarget}
-use Rattle.ebus.specs.Address.{initiatorNibble, initiator, reserved, kindOf}
-use Rattle.ebus.specs.Logical.{escapeAt, logicalAt}
+use Rattle.escapes.specs.Escape.{escaped, expanded}
+use Rattle.escapes.specs.Logical.{escapeAt, logicalAt}
+use Rattle.addresses.specs.declared.ExchangeKind.the-variants.{InitiatorTarget}
+use Rattle.addresses.specs.Address.{initiatorNibble, initiator, reserved, kindOf}
+use Rattle.checkbyte.specs.Check.{ebusBytes, ebusCheck}
 use Rattle.telegram.specs.Telegram.{commandRoom, replyRoom, checkRight, fieldAt, faultOf, collected, telegramAt}
 use Rattle.exchange.specs.Exchange.{accepted, rejected, acknowledgeAt, settled, unanswered, attemptAt, triesAt, synAt, exchangeAt, exchange, judged}
-use Rattle.telegram.specs.Data.{replyData}
-use Rattle.telegram.proofs.Data.{first-whole}
 use Rattle.exchange.proofs.Buffers.{room-enough}
 
 abbrev pub command : List ℕ
@@ -29,14 +24,10 @@ reply = 0x01 ∷ 0x2A ∷ 0xB1 ∷ []
 abbrev pub answeredBy : ℕ → List ℕ
 answeredBy b = 0x10 ∷ 0x08 ∷ 0xB5 ∷ 0x11 ∷ 0x01 ∷ 0x01 ∷ 0x89 ∷ b ∷ 0x01 ∷ 0x2A ∷ 0xB1 ∷ 0x00 ∷ 0xAA ∷ []
 
--- W7 10 08 B5 11 01 01 89 00 01 2A B1 00 AA: accepted, data 2A, one attempt each, 13 bytes read
+-- W7 10 08 B5 11 01 01 89 00 01 2A B1 00 AA: accepted, one attempt each, 13 bytes read (its data: replies/proofs/Worked.antt)
 pub w7 : exchange (answeredBy 0x00) ≡ accepted InitiatorTarget 1 1 13 command reply []
 unfolding ebusCheck ebusBytes enter step bits escaped expanded initiatorNibble initiator reserved kindOf escapeAt logicalAt checkRight fieldAt faultOf collected telegramAt acknowledgeAt settled unanswered attemptAt triesAt synAt exchangeAt
 w7 = refl
-
--- the data of the reply buffer that then starts with the reply, whatever it and the other buffer held
-pub w7-data : (first second : List ℕ) → replyData (starting reply first) second 1 ≡ 0x2A ∷ []
-w7-data first second = first-whole (starting reply first) second (omega arith) (lit≤ tt) (omega arith)
 
 -- W8 the same with 55 for the first 00: number 12 at place 7
 pub w8 : exchange (answeredBy 0x55) ≡ rejected (at-place busError 7)

@@ -9,11 +9,11 @@ use lib.ListN.{length, getD}
 use Rattle.lists.specs.Choice.{pick}
 use Rattle.refusal.specs.Number.{outputShort, synEarly, checkWrong, commandNacked, replyNacked, busError, at-place}
 use Rattle.refusal.specs.declared.Refusal.{Refusal}
-use Rattle.ebus.specs.Escape.{syn}
-use Rattle.ebus.specs.declared.address.ExchangeKind.{ExchangeKind}
-use Rattle.ebus.specs.declared.address.ExchangeKind.the-variants.{Broadcast, InitiatorInitiator, InitiatorTarget}
-use Rattle.ebus.specs.Address.{kindOf}
-use Rattle.ebus.specs.Logical.{runOver}
+use Rattle.escapes.specs.Escape.{syn}
+use Rattle.escapes.specs.Logical.{runOver}
+use Rattle.addresses.specs.declared.ExchangeKind.{ExchangeKind}
+use Rattle.addresses.specs.declared.ExchangeKind.the-variants.{Broadcast, InitiatorInitiator, InitiatorTarget}
+use Rattle.addresses.specs.Address.{kindOf}
 use Rattle.telegram.specs.Telegram.{commandRoom, replyRoom, destinationOf, checkRight, Telegram, read, unread, telegramAt}
 
 -- the two acknowledge bytes

@@ -7,9 +7,9 @@ use Prim.Native.Nat.{ℕ, _≤_}
 use mathlib.Core.List.{List, _++_}
 use lib.ListN.{length, drop}
 use Rattle.refusal.specs.declared.Refusal.{Refusal}
-use Rattle.ebus.specs.Escape.{expanded}
-use Rattle.ebus.specs.Logical.{logicalsAt}
-use Rattle.telegram.specs.declared.read.Extent.{Extent}
+use Rattle.escapes.specs.Escape.{expanded}
+use Rattle.escapes.specs.Logical.{logicalsAt}
+use Rattle.telegram.specs.declared.Extent.{Extent}
 use Rattle.telegram.specs.Telegram.{roomOf, lastOf, read, telegramAt}
 use Rattle.exchange.specs.declared.attempt.Acknowledge.{Acknowledge as AcknowledgeByte}
 use Rattle.exchange.specs.declared.attempt.Acknowledge.the-variants.{Positive, Negative, Invalid}

@@ -5,7 +5,7 @@ use Prim.Native.Nat.{ℕ}
 use mathlib.Core.List.{List, [], _∷_}
 use Rattle.lists.specs.Starting.{starting}
 use Rattle.refusal.specs.Numbers.{Numbers, acceptedWith, refusedWith}
-use Rattle.ebus.specs.Address.{kindNumber}
+use Rattle.addresses.specs.Address.{kindNumber}
 use Rattle.exchange.specs.declared.judge.Judged.{Judged}
 use Rattle.exchange.specs.declared.judge.Judged.the-variants.{Accepted, Refused}
 use Rattle.exchange.specs.Exchange.{Outcome, accepted, rejected}

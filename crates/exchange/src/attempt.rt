@@ -2,10 +2,10 @@
 //
 // A refusal is returned as soon as it is met. Nothing is stored: an attempt says where it ends, and
 // its bytes are taken from the run once the exchange is accepted.
-use crate::wire::wire_check;
-use ebus::address::ExchangeKind;
-use ebus::address::kind;
-use ebus::escape::SYN;
+use addresses::ExchangeKind;
+use addresses::kind;
+use checkbyte::wire_check;
+use escapes::SYN;
 use refusal::BUS_ERROR;
 use refusal::CHECK_WRONG;
 use refusal::COMMAND_NACKED;
@@ -13,16 +13,16 @@ use refusal::REPLY_NACKED;
 use refusal::RUN_ENDED;
 use refusal::Refusal;
 use refusal::SYN_EARLY;
-use telegram::read::Extent;
-use telegram::read::extent_at;
+use telegram::Extent;
+use telegram::extent_at;
 ghost use mathlib.Core.Path.{_≡_};
 ghost use Prim.Native.Nat.{ℕ, _+_, _<_};
 ghost use lib.ListN.{length, getD};
 ghost use mathlib.Core.Bool.{Bool, true, _&&_};
 ghost use Rattle.refusal.specs.Number.{at-place};
-ghost use Rattle.ebus.specs.Address.{kindOf};
-ghost use Rattle.ebus.specs.BitByBit.{EbusTable};
-ghost use Rattle.ebus.specs.Logical.{logicalsAt};
+ghost use Rattle.escapes.specs.Logical.{logicalsAt};
+ghost use Rattle.addresses.specs.Address.{kindOf};
+ghost use Rattle.checkbyte.specs.BitByBit.{EbusTable};
 ghost use Rattle.exchange.specs.Exchange.{acknowledgeAt, settled, onAcknowledge, toAll, attemptAt, nackedTwice, onSecond, triesAt};
 ghost use Rattle.exchange.specs.declared.attempt.Standing.the-variants.{Failed};
 ghost use Rattle.exchange.specs.declared.attempt.Tried.the-variants.{Neither};

@@ -5,16 +5,16 @@
 use crate::attempt::Tried;
 use crate::attempt::tries_at;
 use crate::wire::copy_logical;
-use ebus::address::ExchangeKind;
-use ebus::address::kind;
-use ebus::check::ebus_table;
-use ebus::escape::SYN;
+use addresses::ExchangeKind;
+use addresses::kind;
+use checkbyte::ebus_table;
+use escapes::SYN;
 use refusal::BUS_ERROR;
 use refusal::OUTPUT_SHORT;
 use refusal::RUN_ENDED;
 use refusal::Refusal;
-use telegram::read::COMMAND_ROOM;
-use telegram::read::REPLY_ROOM;
+use telegram::COMMAND_ROOM;
+use telegram::REPLY_ROOM;
 ghost use mathlib.Core.Path.{_≡_};
 ghost use mathlib.Core.Bool.{true, false};
 ghost use mathlib.Mathlib.Logic.Function.Defs.{id};
@@ -22,9 +22,9 @@ ghost use mathlib.Core.List.{List, []};
 ghost use Prim.Native.Nat.{ℕ, _≤_};
 ghost use lib.ListN.{length};
 ghost use Rattle.refusal.specs.Number.{outputShort, at-place};
-ghost use Rattle.ebus.specs.Address.{kindOf};
-ghost use Rattle.ebus.specs.BitByBit.{EbusTable};
-ghost use Rattle.ebus.specs.Logical.{logicalsAt};
+ghost use Rattle.escapes.specs.Logical.{logicalsAt};
+ghost use Rattle.addresses.specs.Address.{kindOf};
+ghost use Rattle.checkbyte.specs.BitByBit.{EbusTable};
 ghost use Rattle.telegram.specs.Telegram.{replyRoom};
 ghost use Rattle.exchange.specs.Exchange.{synAt, rejected, onEnd, onReply, onKind, triesAt, exchangeAt, rooms, judged};
 ghost use Rattle.exchange.specs.View.{answered, Judges};
@@ -176,7 +176,8 @@ fn have_room(command: usize, first: usize, second: usize) -> bool
 }
 
 // Judges the exchange whose command starts at a position, into buffers that have room. Neither SRC
-// nor DST is ever escaped, so that DST is the command's second raw byte.
+// nor DST is ever escaped, so that DST is the command's second raw byte. The table of the check is
+// taken here, once for all attempts.
 fn judge_at(
     run: &[u8],
     at: usize,

@@ -14,29 +14,29 @@ use crate::part::start_of;
 use crate::say;
 use crate::say::Page;
 use crate::word;
-use ebus::address::ExchangeKind;
+use addresses::ExchangeKind;
 use exchange::judge::Judged;
 
 pub(crate) fn check(input: &[u8], page: &mut Page, used: usize) -> usize {
-    let byte = ebus::check::ebus_check(input);
+    let byte = checkbyte::ebus_check(input);
     say::filled(page, used, b"check $\n", &[byte as u64])
 }
 
 pub(crate) fn expand(input: &[u8], room: usize, page: &mut Page, used: usize) -> usize {
     let mut out = [FILL; FULL];
-    let w = ebus::escape::expand(input, lent(&mut out, room));
+    let w = escapes::expand(input, lent(&mut out, room));
     say::written(page, used, w, &out)
 }
 
 pub(crate) fn undo(input: &[u8], room: usize, page: &mut Page, used: usize) -> usize {
     let mut out = [FILL; FULL];
-    let w = ebus::escape::undo(input, lent(&mut out, room));
+    let w = escapes::undo(input, lent(&mut out, room));
     say::written(page, used, w, &out)
 }
 
 pub(crate) fn write_reply(input: &[u8], room: usize, page: &mut Page, used: usize) -> usize {
     let mut out = [FILL; FULL];
-    let w = telegram::write::write_reply(input, lent(&mut out, room));
+    let w = sending::write_reply(input, lent(&mut out, room));
     say::written(page, used, w, &out)
 }
 
@@ -48,7 +48,7 @@ pub(crate) fn kind(line: &[u8], at: usize, d: Desk, page: &mut Page) -> Desk {
             if word::more(line, next) {
                 return extra(line, next, d, page);
             }
-            let found = ebus::address::kind((destination % 256) as u8);
+            let found = addresses::kind((destination % 256) as u8);
             let a = say_kind(found, page, d.used);
             d.with_used(say::byte(page, a, b'\n'))
         }
@@ -159,7 +159,7 @@ fn say_data<'a>(
     page: &mut Page,
     used: usize,
 ) -> usize {
-    let data = telegram::reply::reply_data(first, second, replies);
+    let data = replies::reply_data(first, second, replies);
     say::named(page, used, b"  data", data)
 }
 
@@ -227,7 +227,7 @@ fn write_behind(head: Head, line: &[u8], data_at: usize, d: Desk, page: &mut Pag
 
 fn write_whole(head: Head, data: &[u8], room: usize, page: &mut Page, used: usize) -> usize {
     let mut out = [FILL; FULL];
-    let w = telegram::write::write_command(
+    let w = sending::write_command(
         head.source,
         head.destination,
         head.primary,

@@ -12,9 +12,9 @@ use crate::part::lent;
 use crate::say;
 use crate::say::Page;
 use crate::word;
-use fastmodbus::AnswerRead;
-use fastmodbus::Request;
-use fastmodbus::RequestRead;
+use answers::AnswerRead;
+use requests::Request;
+use requests::RequestRead;
 
 // The check as it is sent, low byte first.
 pub(crate) fn check(input: &[u8], page: &mut Page, used: usize) -> usize {
@@ -23,7 +23,7 @@ pub(crate) fn check(input: &[u8], page: &mut Page, used: usize) -> usize {
 }
 
 pub(crate) fn read_request(input: &[u8], page: &mut Page, used: usize) -> usize {
-    let read = fastmodbus::read_request(input);
+    let read = requests::read_request(input);
     match read {
         RequestRead::Asked(request) => say_request(request, page, used),
         RequestRead::Refused(why) => say::refused(page, used, why),
@@ -38,7 +38,7 @@ fn say_request(request: Request, page: &mut Page, used: usize) -> usize {
 }
 
 pub(crate) fn read_answer(input: &[u8], page: &mut Page, used: usize) -> usize {
-    let read = fastmodbus::read_answer(input);
+    let read = answers::read_answer(input);
     match read {
         AnswerRead::Found { serial, address } => {
             let numbers = [serial as u64, address as u64];
@@ -68,7 +68,7 @@ pub(crate) fn write_request(line: &[u8], at: usize, d: Desk, page: &mut Page) ->
 
 fn write_asked(request: Request, room: usize, page: &mut Page, used: usize) -> usize {
     let mut out = [FILL; FULL];
-    let w = fastmodbus::write_request(request, lent(&mut out, room));
+    let w = requests::write_request(request, lent(&mut out, room));
     say::written(page, used, w, &out)
 }
 
@@ -91,12 +91,12 @@ pub(crate) fn write_found(line: &[u8], at: usize, d: Desk, page: &mut Page) -> D
 
 fn write_device(serial: u32, address: u8, room: usize, page: &mut Page, used: usize) -> usize {
     let mut out = [FILL; FULL];
-    let w = fastmodbus::write_found(serial, address, lent(&mut out, room));
+    let w = answers::write_found(serial, address, lent(&mut out, room));
     say::written(page, used, w, &out)
 }
 
 pub(crate) fn write_end(room: usize, page: &mut Page, used: usize) -> usize {
     let mut out = [FILL; FULL];
-    let w = fastmodbus::write_end(lent(&mut out, room));
+    let w = answers::write_end(lent(&mut out, room));
     say::written(page, used, w, &out)
 }

@@ -1,8 +1,8 @@
 // Groups of cases. A case is a line of text, and its line says what it must give.
-use crate::answers;
 use crate::checks;
-use crate::escapes;
+use crate::escaping;
 use crate::exchanges;
+use crate::frames;
 use crate::tally::Tally;
 use crate::tally::none;
 
@@ -26,10 +26,10 @@ fn case(of: Lines, text: &[u8], at: usize) -> Checked {
     match of {
         Lines::EbusChecks => checks::ebus_case(text, at),
         Lines::ModbusChecks => checks::modbus_case(text, at),
-        Lines::Expanding => escapes::case(false, text, at),
-        Lines::Undoing => escapes::case(true, text, at),
+        Lines::Expanding => escaping::case(false, text, at),
+        Lines::Undoing => escaping::case(true, text, at),
         Lines::Exchanges => exchanges::case(text, at),
-        Lines::Answers => answers::case(text, at),
+        Lines::Answers => frames::case(text, at),
     }
 }
 

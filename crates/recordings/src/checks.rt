@@ -15,7 +15,7 @@ pub(crate) fn ebus_case(text: &[u8], at: usize) -> Checked {
     let mut due = [0u8; 1];
     let d = read_field(text, i.next, true, &mut due);
     Checked {
-        right: d.n == 1 && ebus::check::ebus_check(start(&input, i.n)) == due[0],
+        right: d.n == 1 && checkbyte::ebus_check(start(&input, i.n)) == due[0],
         next: d.next,
     }
 }
@@ -55,7 +55,7 @@ pub(crate) fn ebus_alone() -> Tally {
             0xAA => 0xEC,
             _ => byte,
         };
-        t = t.with(ebus::check::ebus_check(&[byte]) == expected);
+        t = t.with(checkbyte::ebus_check(&[byte]) == expected);
     }
     t
 }

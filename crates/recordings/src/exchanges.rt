@@ -7,14 +7,14 @@
 use crate::cases::Checked;
 use crate::cases::Lines;
 use crate::cases::cases;
-use crate::escapes::FILL;
-use crate::escapes::holds;
+use crate::escaping::FILL;
+use crate::escaping::holds;
 use crate::lines::read_field;
 use crate::lines::start;
 use crate::lines::wide;
 use crate::tally::Tally;
 use crate::tally::none;
-use ebus::address::ExchangeKind;
+use addresses::ExchangeKind;
 use exchange::judge::Judged;
 use exchange::judge::judge;
 

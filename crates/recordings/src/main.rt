@@ -1,10 +1,10 @@
 // Published frames and made cases, each run through the library and held to what it must give.
 // One line for each group says how many were run and how many were right.
-mod answers;
 mod cases;
 mod checks;
-mod escapes;
+mod escaping;
 mod exchanges;
+mod frames;
 mod lines;
 mod scans;
 mod tally;
@@ -25,8 +25,8 @@ fn say_checks() {
 }
 
 fn say_escapes() {
-    escapes::expanded().say(b"expand");
-    escapes::undone().say(b"undo");
+    escaping::expanded().say(b"expand");
+    escaping::undone().say(b"undo");
 }
 
 fn say_recorded() {
@@ -47,7 +47,7 @@ fn say_made() {
 }
 
 fn say_scans() {
-    answers::published().say(b"answers, published");
+    frames::published().say(b"answers, published");
     scans::sizes().say(b"scans, 0 to 248 devices");
     scans::caps().say(b"scans, caps");
     scans::serials().say(b"scans, serials");

@@ -10,10 +10,10 @@ use lib.ListN.{length, getD, drop, length-append}
 use borrow.Author.Tests.{ltb-true, eqb-true}
 use Rattle.lists.proofs.Cases.{pick-cases}
 use Rattle.lists.proofs.Filling.{drop-next}
-use Rattle.ebus.specs.Escape.{syn, expanded}
-use Rattle.ebus.specs.declared.address.ExchangeKind.{ExchangeKind}
-use Rattle.ebus.specs.declared.address.ExchangeKind.the-variants.{Broadcast, InitiatorInitiator, InitiatorTarget}
-use Rattle.ebus.specs.Address.{kindOf}
+use Rattle.escapes.specs.Escape.{syn, expanded}
+use Rattle.addresses.specs.declared.ExchangeKind.{ExchangeKind}
+use Rattle.addresses.specs.declared.ExchangeKind.the-variants.{Broadcast, InitiatorInitiator, InitiatorTarget}
+use Rattle.addresses.specs.Address.{kindOf}
 use Rattle.telegram.specs.Telegram.{destinationOf, checkRight, Telegram, read, unread, telegramAt}
 use Rattle.telegram.proofs.TelegramOnWire.{stood}
 use Rattle.exchange.specs.Exchange.{ack, nack, Acknowledge, positive, negative, invalid, acknowledgeAt, Attempt, taken, nacked, failed, settled, onAcknowledge, unanswered, onTelegram, attemptAt, Tries, once, twice, neither, onSecond, onFirst, triesAt, End, ended, open-still, synAt, Outcome, accepted, rejected, onEnd, onReply, onKind, onCommand, exchangeAt}

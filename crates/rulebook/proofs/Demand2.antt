@@ -18,21 +18,26 @@ use Rattle.refusal.proofs.Writer.{fitted, fits-whole, accepted as accepted-byte
 use Rattle.lists.specs.Starting.{starting}
 use Rattle.refusal.specs.Output.{Output, bytes, refused, content, fitting, written, left, Wrote}
 use Rattle.refusal.specs.declared.Refusal.{Refusal}
-use Rattle.ebus.specs.Escape.{expanded}
-use Rattle.ebus.specs.Address.{initiator, reserved}
-use Rattle.ebus.specs.declared.address.ExchangeKind.{ExchangeKind}
-use Rattle.ebus.proofs.EscapeRoundTrip.{undo-expand, expand-undo}
-use Rattle.telegram.specs.Telegram.{longest, commandRoom, replyRoom, commandOutput, replyOutput}
+use Rattle.escapes.specs.Escape.{expanded}
+use Rattle.escapes.proofs.EscapeRoundTrip.{undo-expand, expand-undo}
+use Rattle.addresses.specs.Address.{initiator, reserved}
+use Rattle.addresses.specs.declared.ExchangeKind.{ExchangeKind}
+use Rattle.telegram.specs.Telegram.{longest, commandRoom, replyRoom}
+use Rattle.sending.specs.Sending.{commandOutput, replyOutput}
 use Rattle.exchange.specs.Exchange.{Outcome, accepted, rejected, exchangeAt, exchange, rooms, judged}
-use Rattle.telegram.specs.Data.{replyData}
+use Rattle.replies.specs.Data.{replyData}
 use Rattle.exchange.specs.View.{answered, commandOf, firstOf, secondOf, Judges}
 use Rattle.exchange.specs.declared.judge.Judged.{Judged}
 use Rattle.exchange.specs.declared.judge.Judged.the-variants.{Accepted, Refused}
 use Rattle.exchange.proofs.Buffers.{room-enough}
-use Rattle.fastmodbus.specs.Layout.{serialLimit, requestFrame, foundFrame, endFrame}
-use Rattle.fastmodbus.specs.Writing.{writeRequest, writeFound, writeEnd}
-use Rattle.fastmodbus.specs.declared.Request.{Request}
-use Rattle.fastmodbus.proofs.RoundTrip.{request-read-back, found-read-back, end-read-back, request-exact, found-exact, end-exact}
+use Rattle.framing.specs.Layout.{serialLimit}
+use Rattle.requests.specs.Layout.{requestFrame}
+use Rattle.answers.specs.Layout.{foundFrame, endFrame}
+use Rattle.requests.specs.Writing.{writeRequest}
+use Rattle.answers.specs.Writing.{writeFound, writeEnd}
+use Rattle.requests.specs.declared.Request.{Request}
+use Rattle.requests.proofs.RoundTrip.{request-read-back, request-exact}
+use Rattle.answers.proofs.RoundTrip.{found-read-back, end-read-back, found-exact, end-exact}
 use Rattle.rulebook.specs.ReadBack.{commandBytes, replyBytes, Before, nothing, nacked-once, attemptsOf, firstTried, secondTried}
 use Rattle.rulebook.specs.Demand2.{Stands, Filled, Shown, BusDemand, FrameDemand, Demand2}
 use Rattle.rulebook.proofs.RuleBook.{rules-accepted, accepted-by-rules}

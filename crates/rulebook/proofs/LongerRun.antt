@@ -12,15 +12,15 @@ use lib.ListN.{length, getD}
 use Rattle.lists.specs.Choice.{pick}
 use Rattle.refusal.specs.Number.{outputShort, runEnded, synEarly, busError, at-place}
 use Rattle.lists.proofs.Cases.{pick-cases}
-use Rattle.ebus.specs.Escape.{syn}
-use Rattle.ebus.specs.declared.address.ExchangeKind.{ExchangeKind}
-use Rattle.ebus.specs.declared.address.ExchangeKind.the-variants.{Broadcast, InitiatorInitiator, InitiatorTarget}
-use Rattle.ebus.specs.declared.escape.Logical.{Logical}
-use Rattle.ebus.specs.declared.escape.Logical.the-variants.{Byte, Refused}
-use Rattle.ebus.specs.Logical.{runOver, logicalAt}
-use Rattle.ebus.specs.Address.{initiator, reserved, kindOf}
+use Rattle.escapes.specs.Escape.{syn}
+use Rattle.escapes.specs.declared.Logical.{Logical}
+use Rattle.escapes.specs.declared.Logical.the-variants.{Byte, Refused}
+use Rattle.escapes.specs.Logical.{runOver, logicalAt}
+use Rattle.escapes.proofs.LongerRun.{Stays, OtherRefusal, OtherByte, stays-same, stays-on, stays-pick, stays-byte, logical-stays}
+use Rattle.addresses.specs.declared.ExchangeKind.{ExchangeKind}
+use Rattle.addresses.specs.declared.ExchangeKind.the-variants.{Broadcast, InitiatorInitiator, InitiatorTarget}
+use Rattle.addresses.specs.Address.{initiator, reserved, kindOf}
 use Rattle.telegram.specs.Telegram.{headOf, lengthPlace, destinationOf, longest, checkRight, Field, SRC, DST, LEN, unjudged, fieldAt, faultOf, Telegram, read, unread, onByte, collected, onHead, telegramAt}
-use Rattle.ebus.proofs.LongerRun.{Stays, OtherRefusal, OtherByte, stays-same, stays-on, stays-pick, stays-byte, logical-stays}
 use Rattle.exchange.specs.Exchange.{ack, nack, Acknowledge, positive, negative, invalid, acknowledgeAt, Attempt, taken, nacked, failed, settled, onAcknowledge, unanswered, onTelegram, attemptAt, Tries, once, twice, neither, nackedTwice, onSecond, onFirst, triesAt, End, ended, open-still, synAt, Outcome, accepted, rejected, onEnd, onReply, onKind, onCommand, exchangeAt, exchange, rooms, judged}
 
 -- ---- a telegram

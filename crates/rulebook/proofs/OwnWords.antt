@@ -11,9 +11,9 @@ use lib.Seq.{take-at, getD-at}
 use borrow.Author.Tests.{eq-eqb, ne-eqb, eqb-true, eqb-false}
 use Rattle.lists.specs.Choice.{pick}
 use Rattle.lists.proofs.Cases.{true-not-false}
-use Rattle.ebus.specs.Check.{ebusCheck}
-use Rattle.ebus.specs.declared.address.ExchangeKind.the-variants.{Broadcast, InitiatorInitiator, InitiatorTarget}
-use Rattle.ebus.specs.Address.{initiator, everyone, kindOf}
+use Rattle.addresses.specs.declared.ExchangeKind.the-variants.{Broadcast, InitiatorInitiator, InitiatorTarget}
+use Rattle.addresses.specs.Address.{initiator, everyone, kindOf}
+use Rattle.checkbyte.specs.Check.{ebusCheck}
 use Rattle.telegram.specs.Telegram.{destinationOf, checkRight}
 use Rattle.exchange.specs.Exchange.{toAll, unanswered}
 use Rattle.rulebook.specs.Rules.{Right, ToAll, ToOne}

@@ -11,10 +11,10 @@ use borrow.Author.Tests.{lt-ltb}
 use Rattle.lists.specs.Choice.{pick}
 use Rattle.refusal.specs.Number.{checkWrong, at-place}
 use Rattle.lists.proofs.Filling.{head-within, head-is, rest-is}
-use Rattle.ebus.specs.Escape.{syn, expanded}
-use Rattle.ebus.specs.declared.address.ExchangeKind.{ExchangeKind}
-use Rattle.ebus.specs.declared.address.ExchangeKind.the-variants.{Broadcast, InitiatorInitiator, InitiatorTarget}
-use Rattle.ebus.specs.Address.{kindOf}
+use Rattle.escapes.specs.Escape.{syn, expanded}
+use Rattle.addresses.specs.declared.ExchangeKind.{ExchangeKind}
+use Rattle.addresses.specs.declared.ExchangeKind.the-variants.{Broadcast, InitiatorInitiator, InitiatorTarget}
+use Rattle.addresses.specs.Address.{kindOf}
 use Rattle.telegram.specs.Telegram.{destinationOf, checkRight, read, telegramAt}
 use Rattle.telegram.proofs.TelegramOnWire.{readable, stood}
 use Rattle.exchange.specs.Exchange.{ack, nack, positive, negative, acknowledgeAt, taken, nacked, failed, settled, onAcknowledge, onTelegram, attemptAt, Tries, once, twice, onSecond, onFirst, triesAt, ended, synAt, accepted, onEnd, onReply, onKind, onCommand, exchangeAt}

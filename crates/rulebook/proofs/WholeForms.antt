@@ -10,7 +10,7 @@ use lib.Seq.{length-take-le, drop-cons, drop-length}
 use borrow.Author.Tests.{le-leb}
 use Rattle.lists.specs.Choice.{pick}
 use Rattle.refusal.specs.Number.{sourceWrong, destinationWrong, lengthOver}
-use Rattle.ebus.specs.Address.{initiator, reserved}
+use Rattle.addresses.specs.Address.{initiator, reserved}
 use Rattle.telegram.specs.Telegram.{longest, SRC, DST, LEN, unjudged, fieldAt, faultOf}
 use Rattle.telegram.proofs.CollectedOnWire.{Fine}
 use Rattle.telegram.proofs.HeadJudged.{fine-source, fine-destination, fine-length}

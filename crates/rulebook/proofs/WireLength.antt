@@ -8,13 +8,14 @@ use native.Mathlib.Omega.{arith}
 use lib.ListN.{length, length-append}
 use Rattle.refusal.specs.Output.{bytes}
 use Rattle.crc.specs.Register.{step, enter, bits}
-use Rattle.ebus.specs.Check.{ebusBytes, ebusCheck}
-use Rattle.ebus.specs.Escape.{escaped, expanded}
-use Rattle.ebus.specs.Address.{initiatorNibble, initiator, reserved}
-use Rattle.telegram.specs.Telegram.{longest, closed, read, telegramAt, commandOutput, replyOutput}
-use Rattle.ebus.proofs.EscapeRoundTrip.{expanded-at-most}
+use Rattle.escapes.specs.Escape.{escaped, expanded}
+use Rattle.escapes.proofs.EscapeRoundTrip.{expanded-at-most}
+use Rattle.addresses.specs.Address.{initiatorNibble, initiator, reserved}
+use Rattle.checkbyte.specs.Check.{ebusBytes, ebusCheck}
+use Rattle.telegram.specs.Telegram.{longest, read, telegramAt}
 use Rattle.telegram.proofs.TelegramOnWire.{stood}
 use Rattle.telegram.proofs.HeadJudged.{source-plain, destination-plain, length-plain}
+use Rattle.sending.specs.Sending.{closed, commandOutput, replyOutput}
 use Rattle.rulebook.specs.Rules.{Form}
 use Rattle.rulebook.specs.Lengths.{longestOnWire, Lengths}
 use Rattle.rulebook.specs.ReadBack.{commandBytes, replyBytes}

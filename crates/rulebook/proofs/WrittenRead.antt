@@ -13,12 +13,13 @@ use borrow.Author.Tests.{leb-true}
 use Rattle.lists.specs.Choice.{pick}
 use Rattle.refusal.specs.Number.{sourceWrong, destinationWrong, lengthOver, at-place}
 use Rattle.refusal.specs.Output.{bytes, refused}
-use Rattle.ebus.specs.Check.{ebusCheck}
-use Rattle.ebus.specs.Escape.{syn, expanded}
-use Rattle.ebus.specs.declared.address.ExchangeKind.{ExchangeKind}
-use Rattle.ebus.specs.declared.address.ExchangeKind.the-variants.{Broadcast, InitiatorInitiator, InitiatorTarget}
-use Rattle.ebus.specs.Address.{initiator, reserved, kindOf}
-use Rattle.telegram.specs.Telegram.{destinationOf, longest, closed, commandOutput, replyOutput}
+use Rattle.escapes.specs.Escape.{syn, expanded}
+use Rattle.addresses.specs.declared.ExchangeKind.{ExchangeKind}
+use Rattle.addresses.specs.declared.ExchangeKind.the-variants.{Broadcast, InitiatorInitiator, InitiatorTarget}
+use Rattle.addresses.specs.Address.{initiator, reserved, kindOf}
+use Rattle.checkbyte.specs.Check.{ebusCheck}
+use Rattle.telegram.specs.Telegram.{destinationOf, longest}
+use Rattle.sending.specs.Sending.{closed, commandOutput, replyOutput}
 use Rattle.exchange.specs.Exchange.{ack, toAll, unanswered}
 use Rattle.rulebook.specs.ReadBack.{commandBytes, replyBytes, Before, nothing, nacked-once, rawBefore, attemptsOf, firstTried, secondTried}
 use Rattle.rulebook.specs.Rules.{CommandForm, ReplyForm, Right, Accepted, alone, acknowledged, Attempts, at-once, repeated, OnWire, broadcast, initiators, target}

@@ -15,23 +15,28 @@ use Rattle.refusal.specs.Output.{Output, bytes, fitting, Wrote}
 use Rattle.refusal.specs.declared.Written.{Written}
 use Rattle.refusal.specs.declared.Written.the-variants.{Length, Refused as WriteRefused}
 use Rattle.refusal.specs.declared.Refusal.{Refusal}
-use Rattle.ebus.specs.Escape.{syn, expanded}
-use Rattle.ebus.specs.Undo.{undone}
-use Rattle.ebus.specs.Address.{initiator, reserved, kindOf}
-use Rattle.ebus.specs.declared.address.ExchangeKind.{ExchangeKind}
-use Rattle.ebus.specs.declared.address.ExchangeKind.the-variants.{Broadcast, InitiatorInitiator, InitiatorTarget}
-use Rattle.telegram.specs.Telegram.{longest, commandRoom, replyRoom, commandOutput, replyOutput}
+use Rattle.escapes.specs.Escape.{syn, expanded}
+use Rattle.escapes.specs.Undo.{undone}
+use Rattle.addresses.specs.Address.{initiator, reserved, kindOf}
+use Rattle.addresses.specs.declared.ExchangeKind.{ExchangeKind}
+use Rattle.addresses.specs.declared.ExchangeKind.the-variants.{Broadcast, InitiatorInitiator, InitiatorTarget}
+use Rattle.telegram.specs.Telegram.{longest, commandRoom, replyRoom}
+use Rattle.sending.specs.Sending.{commandOutput, replyOutput}
 use Rattle.exchange.specs.Exchange.{ack, accepted, exchangeAt, judged}
-use Rattle.telegram.specs.Data.{replyData}
+use Rattle.replies.specs.Data.{replyData}
 use Rattle.exchange.specs.View.{Judges}
 use Rattle.exchange.specs.declared.judge.Judged.{Judged}
 use Rattle.exchange.specs.declared.judge.Judged.the-variants.{Accepted, Refused}
-use Rattle.fastmodbus.specs.Layout.{serialLimit, requestFrame, foundFrame, endFrame}
-use Rattle.fastmodbus.specs.Reading.{fill, skipped, readRequest, readAnswer}
-use Rattle.fastmodbus.specs.Writing.{writeRequest, writeFound, writeEnd}
-use Rattle.fastmodbus.specs.declared.Request.{Request}
-use Rattle.fastmodbus.specs.declared.RequestRead.the-variants.{Asked}
-use Rattle.fastmodbus.specs.declared.AnswerRead.the-variants.{Found, End}
+use Rattle.framing.specs.Layout.{serialLimit}
+use Rattle.requests.specs.Layout.{requestFrame}
+use Rattle.answers.specs.Layout.{foundFrame, endFrame}
+use Rattle.requests.specs.Reading.{readRequest}
+use Rattle.answers.specs.Reading.{fill, skipped, readAnswer}
+use Rattle.requests.specs.Writing.{writeRequest}
+use Rattle.answers.specs.Writing.{writeFound, writeEnd}
+use Rattle.requests.specs.declared.Request.{Request}
+use Rattle.requests.specs.declared.RequestRead.the-variants.{Asked}
+use Rattle.answers.specs.declared.AnswerRead.the-variants.{Found, End}
 use Rattle.rulebook.specs.Rules.{CommandForm, ReplyForm, Right, OnWire}
 use Rattle.rulebook.specs.ReadBack.{commandBytes, replyBytes, Before, rawBefore, attemptsOf, firstTried, secondTried}
 

@@ -7,9 +7,10 @@ use Prim.Native.Nat.{ℕ, _+_, _≤_}
 use lib.ListN.{length}
 use Rattle.lists.specs.Choice.{pick}
 use Rattle.refusal.specs.Output.{bytes}
-use Rattle.ebus.specs.Escape.{escaped, expanded}
-use Rattle.ebus.specs.Address.{initiator, reserved}
-use Rattle.telegram.specs.Telegram.{longest, read, telegramAt, commandOutput, replyOutput}
+use Rattle.escapes.specs.Escape.{escaped, expanded}
+use Rattle.addresses.specs.Address.{initiator, reserved}
+use Rattle.telegram.specs.Telegram.{longest, read, telegramAt}
+use Rattle.sending.specs.Sending.{commandOutput, replyOutput}
 use Rattle.rulebook.specs.Rules.{Form}
 
 -- of a command, and of a reply

@@ -4,8 +4,8 @@ use mathlib.Core.Bool.{Bool}
 use mathlib.Core.List.{List, [], _∷_, _++_}
 use Prim.Native.Nat.{ℕ}
 use lib.ListN.{length}
-use Rattle.ebus.specs.Escape.{expanded}
-use Rattle.telegram.specs.Telegram.{closed}
+use Rattle.escapes.specs.Escape.{expanded}
+use Rattle.sending.specs.Sending.{closed}
 use Rattle.exchange.specs.Exchange.{nack}
 use Rattle.rulebook.specs.Rules.{Form, ToOne}
 

@@ -7,11 +7,11 @@ use mathlib.Core.Bool.{Bool, true, false}
 use mathlib.Core.List.{List, [], _∷_, _++_}
 use Prim.Native.Nat.{ℕ, _≤_}
 use lib.ListN.{length}
-use Rattle.ebus.specs.Check.{ebusCheck}
-use Rattle.ebus.specs.Escape.{syn, expanded}
-use Rattle.ebus.specs.declared.address.ExchangeKind.{ExchangeKind}
-use Rattle.ebus.specs.declared.address.ExchangeKind.the-variants.{Broadcast, InitiatorInitiator, InitiatorTarget}
-use Rattle.ebus.specs.Address.{initiator, reserved, everyone, kindOf}
+use Rattle.escapes.specs.Escape.{syn, expanded}
+use Rattle.addresses.specs.declared.ExchangeKind.{ExchangeKind}
+use Rattle.addresses.specs.declared.ExchangeKind.the-variants.{Broadcast, InitiatorInitiator, InitiatorTarget}
+use Rattle.addresses.specs.Address.{initiator, reserved, everyone, kindOf}
+use Rattle.checkbyte.specs.Check.{ebusCheck}
 use Rattle.telegram.specs.Telegram.{destinationOf, longest}
 use Rattle.exchange.specs.Exchange.{ack, nack}
 

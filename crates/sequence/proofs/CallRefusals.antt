@@ -13,17 +13,17 @@ use Rattle.lists.specs.Choice.{pick}
 use Rattle.lists.proofs.Cases.{by-test}
 use Rattle.refusal.specs.Number.{outputShort, at-place}
 use Rattle.refusal.specs.declared.Refusal.{Refusal}
-use Rattle.fastmodbus.specs.declared.Request.{Request}
-use Rattle.fastmodbus.specs.declared.Request.the-variants.{Start}
-use Rattle.fastmodbus.specs.declared.RequestRead.{RequestRead}
-use Rattle.fastmodbus.specs.declared.RequestRead.the-variants.{Asked, Refused as RequestRefused}
+use Rattle.requests.specs.declared.Request.{Request}
+use Rattle.requests.specs.declared.Request.the-variants.{Start}
+use Rattle.requests.specs.declared.RequestRead.{RequestRead}
+use Rattle.requests.specs.declared.RequestRead.the-variants.{Asked, Refused as RequestRefused}
 use Rattle.table.specs.Table.{Table, devices, valid}
-use Rattle.devices.specs.Request.{Turn, respond}
+use Rattle.turns.specs.Request.{Turn, respond}
 use Rattle.devices.specs.Calls.{Answering, answerRoom, refusing, responseTo, answering, reading, askCall}
 use Rattle.devices.specs.WholeScan.{scanFrom, closedBy, closing, Scanning, concluded, scanRefusing, scanCall}
-use Rattle.devices.specs.declared.bus.Answer.{Answer}
-use Rattle.devices.specs.declared.bus.Answer.the-variants.{Silence, Found, End}
-use Rattle.devices.proofs.GuardCases.{guard-short, guard-passes}
+use Rattle.turns.specs.declared.Answer.{Answer}
+use Rattle.turns.specs.declared.Answer.the-variants.{Silence, Found, End}
+use Rattle.guard.proofs.GuardCases.{guard-short, guard-passes}
 use Rattle.devices.proofs.CallCases.{ask-refused, ask-passed, scan-refused, scan-passed}
 use Rattle.sequence.specs.Calls.{Call, ask, scan, step, tableOf, turnsOf, lent, lentAfter, refusalIn, scanRefusalIn, refusalOf, shortOr, readerRefusal, refusalDue}
 

@@ -4,19 +4,19 @@ use mathlib.Core.Path.{refl, sym, subst}
 use mathlib.Core.List.{List, [], _∷_, _++_}
 use Prim.Native.Nat.{ℕ, zero, suc, min}
 use lib.ListN.{length}
-use Rattle.fastmodbus.specs.declared.Request.{Request}
-use Rattle.fastmodbus.specs.declared.Request.the-variants.{Start, Continue}
-use Rattle.fastmodbus.specs.declared.RequestRead.{RequestRead}
-use Rattle.fastmodbus.specs.declared.RequestRead.the-variants.{Asked, Refused as RequestRefused}
+use Rattle.requests.specs.declared.Request.{Request}
+use Rattle.requests.specs.declared.Request.the-variants.{Start, Continue}
+use Rattle.requests.specs.declared.RequestRead.{RequestRead}
+use Rattle.requests.specs.declared.RequestRead.the-variants.{Asked, Refused as RequestRefused}
 use Rattle.table.specs.Table.{Table, devices, valid}
-use Rattle.devices.specs.Request.{Turn, respond}
-use Rattle.devices.specs.Guard.{guard}
+use Rattle.turns.specs.Request.{Turn, respond}
+use Rattle.guard.specs.Guard.{guard}
 use Rattle.devices.specs.Calls.{answerRoom, answering, reading, behind, askCall}
 use Rattle.devices.specs.WholeScan.{onward, scanFrom, leftBy, scanBehind, scanCall}
-use Rattle.devices.specs.declared.bus.Answer.{Answer}
-use Rattle.devices.specs.declared.bus.Answer.the-variants.{Silence, Found, End}
-use Rattle.devices.specs.declared.guard.Guard.{Guard}
-use Rattle.devices.specs.declared.guard.Guard.the-variants.{Passed, Refused}
+use Rattle.turns.specs.declared.Answer.{Answer}
+use Rattle.turns.specs.declared.Answer.the-variants.{Silence, Found, End}
+use Rattle.guard.specs.declared.Guard.{Guard}
+use Rattle.guard.specs.declared.Guard.the-variants.{Passed, Refused}
 use Rattle.sequence.specs.Calls.{Call, ask, scan, step, tableOf, turnsOf, after, history, Linked}
 
 -- no turn, and turns put together

@@ -8,18 +8,18 @@ use mathlib.Core.Option.{none}
 use Prim.Native.Nat.{ℕ, _<_}
 use native.Mathlib.Omega.{arith}
 use lib.ListN.{length, getD}
-use Rattle.fastmodbus.specs.declared.Request.{Request}
-use Rattle.fastmodbus.specs.declared.RequestRead.{RequestRead}
-use Rattle.fastmodbus.specs.declared.RequestRead.the-variants.{Asked}
+use Rattle.requests.specs.declared.Request.{Request}
+use Rattle.requests.specs.declared.RequestRead.{RequestRead}
+use Rattle.requests.specs.declared.RequestRead.the-variants.{Asked}
 use Rattle.table.specs.Table.{Table, devices, valid}
-use Rattle.devices.specs.Request.{Turn, standing, respond}
+use Rattle.turns.specs.Request.{Turn, standing, respond}
 use Rattle.devices.specs.Calls.{Answering, answerBytes, responseTo, answering, askCall}
-use Rattle.devices.specs.Rank.{rank}
-use Rattle.devices.specs.declared.bus.Answer.{Answer}
+use Rattle.turns.specs.Rank.{rank}
+use Rattle.turns.specs.declared.Answer.{Answer}
 use Rattle.devices.specs.declared.Response.the-variants.{Answered}
 use Rattle.table.proofs.Meaning.{tested}
-use Rattle.devices.proofs.TurnCases.{by-contest}
-use Rattle.devices.proofs.TurnKeeps.{standing-devices}
+use Rattle.turns.proofs.TurnCases.{by-contest}
+use Rattle.turns.proofs.TurnKeeps.{standing-devices}
 use Rattle.sequence.specs.Calls.{Call, ask, after, history, Linked, counted, sinceStart, named, refusalDue}
 use Rattle.sequence.specs.Sequence.{serialAt, Contested, AskDue, Holds, Demand3}
 use Rattle.sequence.proofs.Ranks.{rank-below, rank-same, rank-serial}

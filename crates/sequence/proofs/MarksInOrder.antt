@@ -15,16 +15,16 @@ use Rattle.lists.specs.Choice.{pick}
 use Rattle.lists.proofs.Cases.{by-test}
 use Rattle.arbitration.specs.Smallest.{zeroBits}
 use Rattle.table.specs.Table.{Table, devices, marked, valid}
-use Rattle.devices.specs.Request.{key, windows, contest, foundAnswer, endAnswer, contend, tableAfter}
+use Rattle.turns.specs.Request.{key, windows, contest, foundAnswer, endAnswer, contend, tableAfter}
 use Rattle.lists.specs.Tests.{howMany}
-use Rattle.devices.specs.Rank.{rank}
-use Rattle.devices.specs.declared.bus.Answer.{Answer}
-use Rattle.devices.specs.declared.bus.Answer.the-variants.{Found, End}
+use Rattle.turns.specs.Rank.{rank}
+use Rattle.turns.specs.declared.Answer.{Answer}
+use Rattle.turns.specs.declared.Answer.the-variants.{Found, End}
 use Rattle.lists.proofs.Counting.{isMarked, howMany-le, howMany-lt, howMany-all, howMany-not-all, howMany-set, howMany-cleared}
-use Rattle.devices.proofs.Keys.{key-unscanned, key-scanned}
+use Rattle.turns.proofs.Keys.{key-unscanned, key-scanned}
 use Rattle.table.proofs.Meaning.{Tested, tested, serial-below, mark-below, same-device}
-use Rattle.devices.proofs.Winner.{Wins, winner-wins}
-use Rattle.devices.proofs.TurnCases.{by-contest}
+use Rattle.turns.proofs.Winner.{Wins, winner-wins}
+use Rattle.turns.proofs.TurnCases.{by-contest}
 use Rattle.sequence.specs.Sequence.{serialAt, addressAt}
 use Rattle.sequence.proofs.Ranks.{count-none, rank-below}
 

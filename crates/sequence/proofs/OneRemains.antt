@@ -14,18 +14,18 @@ use Rattle.arbitration.specs.Contest.{remaining, dominantWindows, contending, d
 use Rattle.arbitration.specs.declared.Decided.{Decided}
 use Rattle.arbitration.proofs.Contenders.{all-contend}
 use Rattle.arbitration.proofs.SmallestWins.{contest-law, some-smallest}
-use Rattle.fastmodbus.specs.Layout.{foundFrame, endFrame}
-use Rattle.fastmodbus.specs.Reading.{fill}
-use Rattle.fastmodbus.specs.declared.Request.{Request}
+use Rattle.answers.specs.Layout.{foundFrame, endFrame}
+use Rattle.answers.specs.Reading.{fill}
+use Rattle.requests.specs.declared.Request.{Request}
 use Rattle.table.specs.Table.{Table, devices, valid}
-use Rattle.devices.specs.Request.{key, keys, windows, contest, contend, standing, respond}
+use Rattle.turns.specs.Request.{key, keys, windows, contest, contend, standing, respond}
 use Rattle.devices.specs.Calls.{answerBytes}
-use Rattle.devices.specs.declared.bus.Answer.the-variants.{Found, End}
-use Rattle.devices.proofs.Keys.{same-serial, keys-length, keys-at}
+use Rattle.turns.specs.declared.Answer.the-variants.{Found, End}
+use Rattle.turns.proofs.Keys.{same-serial, keys-length, keys-at}
 use Rattle.table.proofs.Meaning.{tested, serial-below, same-device}
-use Rattle.devices.proofs.Winner.{keyAt, keys-below}
-use Rattle.devices.proofs.TurnCases.{place-inside, not-silent}
-use Rattle.devices.proofs.TurnKeeps.{standing-valid, standing-devices}
+use Rattle.turns.proofs.Winner.{keyAt, keys-below}
+use Rattle.turns.proofs.TurnCases.{place-inside, not-silent}
+use Rattle.turns.proofs.TurnKeeps.{standing-valid, standing-devices}
 use Rattle.sequence.specs.Sequence.{Contested, serialAt, addressAt, markAt}
 
 -- of numbers that differ, one equals m

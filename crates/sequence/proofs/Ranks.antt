@@ -13,7 +13,7 @@ use Rattle.lists.specs.Choice.{pick}
 use Rattle.lists.proofs.Cases.{by-test}
 use Rattle.table.specs.Table.{Table, devices}
 use Rattle.lists.specs.Tests.{howMany}
-use Rattle.devices.specs.Rank.{rank}
+use Rattle.turns.specs.Rank.{rank}
 use Rattle.lists.proofs.Counting.{howMany-le, howMany-lt, howMany-not-all}
 use Rattle.table.proofs.Meaning.{Tested, same-device}
 use Rattle.sequence.specs.Sequence.{serialAt}

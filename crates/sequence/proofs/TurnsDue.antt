@@ -12,21 +12,21 @@ use lib.Seq.{getD-append-seam}
 use borrow.Author.Tests.{ltb-true, ltb-false}
 use Rattle.lists.proofs.Cases.{by-test}
 use Rattle.arbitration.specs.Smallest.{zeroBits}
-use Rattle.fastmodbus.specs.Layout.{foundFrame, endFrame}
-use Rattle.fastmodbus.specs.Reading.{fill, readAnswer}
-use Rattle.fastmodbus.specs.declared.Request.{Request}
-use Rattle.fastmodbus.specs.declared.Request.the-variants.{Start, Continue}
-use Rattle.fastmodbus.specs.declared.AnswerRead.the-variants.{Found as FoundRead}
-use Rattle.fastmodbus.proofs.RoundTrip.{found-read-back, end-read-back}
+use Rattle.answers.specs.Layout.{foundFrame, endFrame}
+use Rattle.answers.specs.Reading.{fill, readAnswer}
+use Rattle.requests.specs.declared.Request.{Request}
+use Rattle.requests.specs.declared.Request.the-variants.{Start, Continue}
+use Rattle.answers.specs.declared.AnswerRead.the-variants.{Found as FoundRead}
+use Rattle.answers.proofs.RoundTrip.{found-read-back, end-read-back}
 use Rattle.table.specs.Table.{Table, devices, marked, valid}
-use Rattle.devices.specs.Request.{Turn, key, windows, contend, tableAfter, respond}
+use Rattle.turns.specs.Request.{Turn, key, windows, contend, tableAfter, respond}
 use Rattle.devices.specs.Calls.{answerBytes}
 use Rattle.devices.specs.WholeScan.{serialIn}
-use Rattle.devices.specs.Rank.{rank}
-use Rattle.devices.specs.declared.bus.Answer.{Answer}
-use Rattle.devices.specs.declared.bus.Answer.the-variants.{Found, End}
+use Rattle.turns.specs.Rank.{rank}
+use Rattle.turns.specs.declared.Answer.{Answer}
+use Rattle.turns.specs.declared.Answer.the-variants.{Found, End}
 use Rattle.table.proofs.Meaning.{tested, serial-below}
-use Rattle.devices.proofs.TurnKeeps.{respond-columns, respond-valid, cleared-valid}
+use Rattle.turns.proofs.TurnKeeps.{respond-columns, respond-valid, cleared-valid}
 use Rattle.sequence.specs.Calls.{Linked, counted, sinceStart, kept, named}
 use Rattle.sequence.specs.Sequence.{serialAt, addressAt, FoundDue, EndDue, Due}
 use Rattle.sequence.proofs.MarksInOrder.{Ordered, ordered-cleared, FoundAs, EndAs, turn-of}

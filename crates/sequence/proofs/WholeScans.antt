@@ -17,20 +17,20 @@ use Rattle.lists.proofs.Filling.{length-starting}
 use Rattle.lists.specs.Choice.{pick}
 use Rattle.lists.specs.Starting.{starting}
 use Rattle.arbitration.specs.Smallest.{zeroBits}
-use Rattle.fastmodbus.specs.Reading.{readAnswer}
-use Rattle.fastmodbus.specs.declared.Request.{Request}
-use Rattle.fastmodbus.specs.declared.Request.the-variants.{Start, Continue}
-use Rattle.fastmodbus.specs.declared.AnswerRead.{AnswerRead}
-use Rattle.fastmodbus.specs.declared.AnswerRead.the-variants.{Found as FoundRead, End as EndRead}
+use Rattle.answers.specs.Reading.{readAnswer}
+use Rattle.requests.specs.declared.Request.{Request}
+use Rattle.requests.specs.declared.Request.the-variants.{Start, Continue}
+use Rattle.answers.specs.declared.AnswerRead.{AnswerRead}
+use Rattle.answers.specs.declared.AnswerRead.the-variants.{Found as FoundRead, End as EndRead}
 use Rattle.table.specs.Table.{Table, devices, marked, valid}
-use Rattle.devices.specs.Request.{Turn, key, windows, contend, tableAfter, standing, respond}
+use Rattle.turns.specs.Request.{Turn, key, windows, contend, tableAfter, standing, respond}
 use Rattle.devices.specs.Calls.{answerBytes}
 use Rattle.devices.specs.WholeScan.{onward, scanFrom, serialsHeard, addressesHeard, closing, Scanning, concluded, scanCall}
-use Rattle.devices.specs.Rank.{rank}
-use Rattle.devices.specs.declared.bus.Answer.{Answer}
-use Rattle.devices.specs.declared.bus.Answer.the-variants.{Silence, Found, End}
+use Rattle.turns.specs.Rank.{rank}
+use Rattle.turns.specs.declared.Answer.{Answer}
+use Rattle.turns.specs.declared.Answer.the-variants.{Silence, Found, End}
 use Rattle.devices.specs.declared.Scanned.the-variants.{Complete, Unfinished}
-use Rattle.devices.proofs.TurnKeeps.{standing-valid, respond-valid, respond-columns}
+use Rattle.turns.proofs.TurnKeeps.{standing-valid, respond-valid, respond-columns}
 use Rattle.table.proofs.Meaning.{tested}
 use Rattle.devices.proofs.ScanSteps.{answered, scan-step}
 use Rattle.sequence.specs.Calls.{scan, counted, sinceStart, refusalDue}

@@ -9,13 +9,13 @@ use lib.ListN.{length}
 use Rattle.lists.specs.Choice.{pick}
 use Rattle.refusal.specs.Number.{outputShort, at-place}
 use Rattle.refusal.specs.declared.Refusal.{Refusal}
-use Rattle.fastmodbus.specs.Reading.{readRequest}
-use Rattle.fastmodbus.specs.declared.Request.{Request}
-use Rattle.fastmodbus.specs.declared.Request.the-variants.{Start, Continue}
-use Rattle.fastmodbus.specs.declared.RequestRead.{RequestRead}
-use Rattle.fastmodbus.specs.declared.RequestRead.the-variants.{Asked, Refused as RequestRefused}
+use Rattle.requests.specs.Reading.{readRequest}
+use Rattle.requests.specs.declared.Request.{Request}
+use Rattle.requests.specs.declared.Request.the-variants.{Start, Continue}
+use Rattle.requests.specs.declared.RequestRead.{RequestRead}
+use Rattle.requests.specs.declared.RequestRead.the-variants.{Asked, Refused as RequestRefused}
 use Rattle.table.specs.Table.{Table}
-use Rattle.devices.specs.Request.{Turn, respond}
+use Rattle.turns.specs.Request.{Turn, respond}
 use Rattle.devices.specs.Calls.{Answering, answerRoom, askCall}
 use Rattle.devices.specs.WholeScan.{Scanning, scanCall, serialIn}
 use Rattle.devices.specs.declared.Response.{Response}

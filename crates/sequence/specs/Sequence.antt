@@ -16,20 +16,20 @@ use Rattle.lists.specs.Starting.{starting}
 use Rattle.refusal.specs.declared.Refusal.{Refusal}
 use Rattle.arbitration.specs.Contest.{remaining, dominantWindows}
 use Rattle.arbitration.specs.Smallest.{zeroBits}
-use Rattle.fastmodbus.specs.Layout.{foundFrame, endFrame}
-use Rattle.fastmodbus.specs.Reading.{fill, readAnswer}
-use Rattle.fastmodbus.specs.declared.Request.{Request}
-use Rattle.fastmodbus.specs.declared.Request.the-variants.{Start, Continue}
-use Rattle.fastmodbus.specs.declared.RequestRead.{RequestRead}
-use Rattle.fastmodbus.specs.declared.RequestRead.the-variants.{Asked}
-use Rattle.fastmodbus.specs.declared.AnswerRead.the-variants.{Found, End}
+use Rattle.answers.specs.Layout.{foundFrame, endFrame}
+use Rattle.answers.specs.Reading.{fill, readAnswer}
+use Rattle.requests.specs.declared.Request.{Request}
+use Rattle.requests.specs.declared.Request.the-variants.{Start, Continue}
+use Rattle.requests.specs.declared.RequestRead.{RequestRead}
+use Rattle.requests.specs.declared.RequestRead.the-variants.{Asked}
+use Rattle.answers.specs.declared.AnswerRead.the-variants.{Found, End}
 use Rattle.table.specs.Table.{Table, devices, marked, valid}
-use Rattle.devices.specs.Request.{Turn, key, keys, windows, standing, respond}
+use Rattle.turns.specs.Request.{Turn, key, keys, windows, standing, respond}
 use Rattle.devices.specs.Calls.{Answering, answerBytes, askCall}
 use Rattle.devices.specs.WholeScan.{Scanning, scanCall, serialsHeard}
-use Rattle.devices.specs.Rank.{rank}
-use Rattle.devices.specs.declared.bus.Answer.{Answer}
-use Rattle.devices.specs.declared.bus.Answer.the-variants.{Found as FoundAnswer, End as EndAnswer}
+use Rattle.turns.specs.Rank.{rank}
+use Rattle.turns.specs.declared.Answer.{Answer}
+use Rattle.turns.specs.declared.Answer.the-variants.{Found as FoundAnswer, End as EndAnswer}
 use Rattle.devices.specs.declared.Response.the-variants.{Answered}
 use Rattle.devices.specs.declared.Scanned.the-variants.{Complete, Unfinished}
 use Rattle.sequence.specs.Calls.{Call, ask, scan, step, tableOf, turnsOf, lent, lentAfter, refusalOf, after, history, Linked, counted, sinceStart, named, refusalDue}

@@ -6,7 +6,7 @@ use mathlib.Core.List.{List}
 use lib.Dec.{leb, ltb, eqb}
 use lib.ListN.{length}
 use Rattle.lists.specs.Tests.{all, different}
-pub use Rattle.fastmodbus.specs.Layout.{serialLimit}
+pub use Rattle.framing.specs.Layout.{serialLimit}
 
 -- of each device its serial, its address, and its mark, which says whether it was scanned
 pub record Table : Type 0 where

@@ -1,7 +1,7 @@
 // The device table: three lent columns, and when they are valid.
 //
 // Rule D1.
-use fastmodbus::SERIAL_LIMIT;
+use framing::SERIAL_LIMIT;
 ghost use mathlib.Core.Path.{_≡_};
 ghost use lib.Dec.{eqb};
 ghost use Rattle.lists.specs.Tests.{any, all, different};

@@ -11,9 +11,9 @@ use borrow.Author.Tests.{eq-eqb, ne-eqb}
 use Rattle.lists.specs.Choice.{pick}
 use Rattle.refusal.specs.Number.{at-place}
 use Rattle.refusal.specs.declared.Refusal.{Refusal}
-use Rattle.ebus.specs.declared.escape.Logical.{Logical}
-use Rattle.ebus.specs.declared.escape.Logical.the-variants.{Byte, Refused}
-use Rattle.ebus.specs.Logical.{logicalAt}
+use Rattle.escapes.specs.declared.Logical.{Logical}
+use Rattle.escapes.specs.declared.Logical.the-variants.{Byte, Refused}
+use Rattle.escapes.specs.Logical.{logicalAt}
 use Rattle.telegram.specs.Telegram.{lastOf, fieldAt, faultOf, read, unread, onByte, collected}
 use Rattle.telegram.specs.View.{extentOf}
 

@@ -9,14 +9,14 @@ use lib.Dec.{eqb}
 use lib.ListN.{length, drop, length-append, length-drop}
 use borrow.Author.Tests.{eqb-true, eq-eqb}
 use Rattle.lists.specs.Choice.{pick}
-use Rattle.refusal.specs.Number.{at-place}
 use Rattle.lists.proofs.Cases.{pick-cases}
-use Rattle.ebus.specs.Escape.{escaped, expanded}
-use Rattle.ebus.specs.declared.escape.Logical.{Logical}
-use Rattle.ebus.specs.declared.escape.Logical.the-variants.{Byte, Refused}
-use Rattle.ebus.specs.Logical.{logicalAt}
-use Rattle.ebus.proofs.Undo.{Stands, logical-stands}
-use Rattle.ebus.proofs.EscapeRoundTrip.{read-back}
+use Rattle.refusal.specs.Number.{at-place}
+use Rattle.escapes.specs.Escape.{escaped, expanded}
+use Rattle.escapes.specs.declared.Logical.{Logical}
+use Rattle.escapes.specs.declared.Logical.the-variants.{Byte, Refused}
+use Rattle.escapes.specs.Logical.{logicalAt}
+use Rattle.escapes.proofs.LogicalBytes.{Stands, logical-stands}
+use Rattle.escapes.proofs.EscapeRoundTrip.{read-back}
 use Rattle.telegram.specs.Telegram.{fieldAt, faultOf, Telegram, read, unread, onByte, collected}
 
 -- no byte is faulty, the first of them being at this place of the telegram

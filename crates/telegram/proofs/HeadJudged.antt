@@ -11,11 +11,11 @@ use lib.Dec.{leb}
 use lib.ListN.{length, getD}
 use borrow.Author.Tests.{lt-leb, ne-eqb}
 use Rattle.lists.specs.Choice.{pick}
-use Rattle.refusal.specs.Number.{sourceWrong, destinationWrong, lengthOver}
 use Rattle.lists.proofs.Cases.{true-or-false, true-not-false, le-or-lt}
-use Rattle.ebus.specs.Escape.{escaped}
-use Rattle.ebus.proofs.Escaped.{escaped-plain}
-use Rattle.ebus.specs.Address.{initiatorNibble, initiator, reserved}
+use Rattle.refusal.specs.Number.{sourceWrong, destinationWrong, lengthOver}
+use Rattle.escapes.specs.Escape.{escaped}
+use Rattle.escapes.proofs.Escaped.{escaped-plain}
+use Rattle.addresses.specs.Address.{initiatorNibble, initiator, reserved}
 use Rattle.telegram.specs.Telegram.{headOf, lengthPlace, longest, SRC, DST, LEN, unjudged, fieldAt, faultOf}
 use Rattle.telegram.proofs.CollectedOnWire.{Fine}
 

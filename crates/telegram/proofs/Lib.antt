@@ -3,5 +3,4 @@ pub mod CollectTurn
 pub mod CollectedOnWire
 pub mod HeadJudged
 pub mod TelegramOnWire
-pub mod Extent
-pub mod Data
+pub mod TelegramRead

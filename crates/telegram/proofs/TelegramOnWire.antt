@@ -6,8 +6,8 @@ use mathlib.Core.List.{List, [], _++_, append-assoc}
 use Prim.Native.Nat.{ℕ, _+_, _≤_, _<_}
 use native.Mathlib.Omega.{arith}
 use lib.ListN.{length, getD, drop, length-append}
-use Rattle.ebus.specs.Escape.{expanded}
-use Rattle.ebus.proofs.Escaped.{expanded-append}
+use Rattle.escapes.specs.Escape.{expanded}
+use Rattle.escapes.proofs.Escaped.{expanded-append}
 use Rattle.telegram.specs.Telegram.{headOf, lengthPlace, Telegram, read, unread, collected, onHead, telegramAt}
 use Rattle.telegram.proofs.CollectedOnWire.{Fine, Gather, Gathered, gathered, found}
 use Rattle.telegram.proofs.HeadJudged.{all-fine}

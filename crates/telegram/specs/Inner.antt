@@ -2,10 +2,10 @@
 -- Assumes nothing.
 use Rattle.refusal.specs.Number.{at-place}
 use Rattle.refusal.specs.declared.Refusal.{Refusal}
-use Rattle.ebus.specs.declared.escape.Logical.{Logical}
-use Rattle.ebus.specs.declared.escape.Logical.the-variants.{Byte, Refused as NoByte}
-use Rattle.telegram.specs.declared.read.Field.{Field as FieldEnum}
-use Rattle.telegram.specs.declared.read.Field.the-variants.{Source, Destination, Length, Other}
+use Rattle.escapes.specs.declared.Logical.{Logical}
+use Rattle.escapes.specs.declared.Logical.the-variants.{Byte, Refused as NoByte}
+use Rattle.telegram.specs.declared.Field.{Field as FieldEnum}
+use Rattle.telegram.specs.declared.Field.the-variants.{Source, Destination, Length, Other}
 use Rattle.telegram.specs.Telegram.{Field, SRC, DST, LEN, unjudged}
 
 abbrev pub fieldOf : FieldEnum → Field

@@ -1,5 +1,4 @@
--- Telegrams and the data of a reply, in the order of the rules.
+-- Telegrams as they are read, in the order of the rules.
 pub mod Telegram
-pub mod Data
 pub mod View
 pub mod Inner

@@ -1,4 +1,4 @@
--- A telegram, rules E9 and E10: what one is, how one is read from a run at an absolute position, and what is written. It is a
+-- A telegram, rules E9 and E10: what one is, and how one is read from a run at an absolute position. It is a
 -- command where `command` holds, and else a reply.
 -- Assumes nothing.
 use Prim.Native.Nat.{ℕ, zero, suc, _+_, _-_}
@@ -8,14 +8,12 @@ use lib.Dec.{eqb, leb}
 use lib.ListN.{length, getD, take}
 use Rattle.lists.specs.Choice.{pick}
 use Rattle.refusal.specs.Number.{sourceWrong, destinationWrong, lengthOver, at-place}
-use Rattle.refusal.specs.Output.{Output, bytes, refused}
 use Rattle.refusal.specs.declared.Refusal.{Refusal}
-use Rattle.ebus.specs.Check.{ebusCheck}
-use Rattle.ebus.specs.Escape.{expanded}
-use Rattle.ebus.specs.declared.escape.Logical.{Logical}
-use Rattle.ebus.specs.declared.escape.Logical.the-variants.{Byte, Refused}
-use Rattle.ebus.specs.Logical.{logicalAt}
-use Rattle.ebus.specs.Address.{initiator, reserved}
+use Rattle.escapes.specs.declared.Logical.{Logical}
+use Rattle.escapes.specs.declared.Logical.the-variants.{Byte, Refused}
+use Rattle.escapes.specs.Logical.{logicalAt}
+use Rattle.addresses.specs.Address.{initiator, reserved}
+use Rattle.checkbyte.specs.Check.{ebusCheck}
 
 -- ---- layout
 
@@ -54,10 +52,6 @@ roomOf command = pick command commandRoom replyRoom
 -- the last byte of a telegram, or of as much of one as was read
 abbrev pub lastOf : List ℕ → ℕ
 lastOf telegram = getD telegram (length telegram - 1) 0
-
--- a body with its check byte behind it
-unfoldable pub closed : List ℕ → List ℕ
-closed body = body ++ ebusCheck body ∷ []
 
 -- whether the last byte of a telegram is the check byte of those before it
 unfoldable pub checkRight : List ℕ → Bool
@@ -113,20 +107,3 @@ onHead command run (unread why) = unread why
 
 unfoldable pub telegramAt : Bool → List ℕ → ℕ → Telegram
 telegramAt command run at = onHead command run (collected command run (headOf command) [] at at)
-
--- ---- writing
-
--- rule N3: a command gives 6, 7, 8; its room is looked at last (`fitting`)
-unfoldable pub commandOutput : ℕ → ℕ → ℕ → ℕ → List ℕ → Output
-commandOutput source destination primary secondary payload =
-    pick (initiator source)
-    (pick (reserved destination) (refused (at-place destinationWrong 0))
-    (pick (leb (length payload) longest)
-    (bytes (expanded (closed (source ∷ destination ∷ primary ∷ secondary ∷ length payload ∷ payload))))
-    (refused (at-place lengthOver 0))))
-    (refused (at-place sourceWrong 0))
-
--- rule N3: a reply gives 8; its room is looked at last
-unfoldable pub replyOutput : List ℕ → Output
-replyOutput payload =
-    pick (leb (length payload) longest) (bytes (expanded (closed (length payload ∷ payload)))) (refused (at-place lengthOver 0))

@@ -6,8 +6,8 @@ use Prim.Native.Nat.{ℕ}
 use lib.ListN.{length, replicate}
 use Rattle.lists.specs.Starting.{starting}
 use Rattle.refusal.specs.Number.{at-place}
-use Rattle.telegram.specs.declared.read.Extent.{Extent}
-use Rattle.telegram.specs.declared.read.Telegram.{Telegram as TelegramStruct}
+use Rattle.telegram.specs.declared.Extent.{Extent}
+use Rattle.telegram.specs.declared.Telegram.{Telegram as TelegramStruct}
 use Rattle.telegram.specs.Telegram.{commandRoom, lastOf, Telegram, read, unread}
 
 -- how far it reaches: how many bytes, the last of them, its place, and the position behind it

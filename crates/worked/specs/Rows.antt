@@ -5,17 +5,19 @@ use mathlib.Core.List.{List, [], _∷_}
 use Prim.Native.Nat.{ℕ, suc, _≤_}
 use Rattle.refusal.specs.Number.{busError, at-place}
 use Rattle.lists.specs.Starting.{starting}
-use Rattle.ebus.specs.Check.{ebusCheck}
-use Rattle.ebus.specs.Escape.{expanded}
-use Rattle.ebus.specs.declared.address.ExchangeKind.the-variants.{Broadcast, InitiatorInitiator, InitiatorTarget}
-use Rattle.ebus.specs.Address.{kindOf}
+use Rattle.escapes.specs.Escape.{expanded}
+use Rattle.addresses.specs.declared.ExchangeKind.the-variants.{Broadcast, InitiatorInitiator, InitiatorTarget}
+use Rattle.addresses.specs.Address.{kindOf}
+use Rattle.checkbyte.specs.Check.{ebusCheck}
 use Rattle.exchange.specs.Exchange.{accepted, rejected, judged}
-use Rattle.telegram.specs.Data.{replyData}
-use Rattle.fastmodbus.specs.Layout.{requestFrame, foundFrame, endFrame}
-use Rattle.fastmodbus.specs.Reading.{readRequest, readAnswer}
-use Rattle.fastmodbus.specs.declared.Request.the-variants.{Start, Continue}
-use Rattle.fastmodbus.specs.declared.RequestRead.the-variants.{Asked}
-use Rattle.fastmodbus.specs.declared.AnswerRead.the-variants.{Found, End}
+use Rattle.replies.specs.Data.{replyData}
+use Rattle.requests.specs.Layout.{requestFrame}
+use Rattle.answers.specs.Layout.{foundFrame, endFrame}
+use Rattle.requests.specs.Reading.{readRequest}
+use Rattle.answers.specs.Reading.{readAnswer}
+use Rattle.requests.specs.declared.Request.the-variants.{Start, Continue}
+use Rattle.requests.specs.declared.RequestRead.the-variants.{Asked}
+use Rattle.answers.specs.declared.AnswerRead.the-variants.{Found, End}
 use Rattle.table.specs.Table.{Table, columns}
 use Rattle.devices.specs.WholeScan.{scanCall}
 use Rattle.devices.specs.declared.Scanned.the-variants.{Complete, Nobody, Unfinished}

@@ -33,7 +33,7 @@ impl ScanEnd {
             sys::MOOR_COMPLETE => ScanEnd::Complete,
             sys::MOOR_NOBODY => ScanEnd::Nobody,
             sys::MOOR_UNFINISHED => ScanEnd::Unfinished,
-            _ => unreachable!("libgateway.a ends a scan in one of three ways"),
+            _ => unreachable!("libmoortinker.a ends a scan in one of three ways"),
         }
     }
 }

@@ -2,8 +2,8 @@
 -- Assumes nothing.
 use mathlib.Core.Path.{sym, ap, _∙_}
 use Rattle.boundary.specs.ForC.{requestForC}
-use Rattle.fastmodbus.specs.declared.Request.{Request}
-use Rattle.fastmodbus.specs.declared.RequestRead.the-variants.{Asked}
+use Rattle.requests.specs.declared.Request.{Request}
+use Rattle.requests.specs.declared.RequestRead.the-variants.{Asked}
 use borrow.Author.Needs.{needs}
 use Rattle.boundary.proofs.request_for_c.Statement.{statement}
 use Rattle.boundary.proofs.request_for_c.Tie as tie

@@ -3,11 +3,11 @@ use mathlib.Core.Path.{refl, sym, subst}
 use lib.ListN.{length}
 use Rattle.table.specs.Table.{columns, valid}
 use Rattle.devices.specs.Calls.{answerRoom}
-use Rattle.devices.specs.Inner.{Writable}
-use Rattle.devices.specs.declared.guard.Guard.the-variants.{Passed, Refused}
-use Rattle.devices.proofs.GuardCases.{guard-of, guard-room, guard-valid}
+use Rattle.turns.specs.Inner.{Writable}
+use Rattle.guard.specs.declared.Guard.the-variants.{Passed, Refused}
+use Rattle.guard.proofs.GuardCases.{guard-of, guard-room, guard-valid}
 use Rattle.devices.proofs.CallCases.{ask-refused, ask-unread, ask-asked, refusing-is, answering-is}
-use Rattle.devices.proofs.TurnKeeps.{respond-writable}
+use Rattle.turns.proofs.TurnKeeps.{respond-writable}
 use borrow.Author.Needs.{needs}
 use Rattle.devices.proofs.ask.Statement.{statement}
 use Rattle.devices.proofs.ask.Tie as tie

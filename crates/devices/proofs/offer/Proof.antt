@@ -1,7 +1,7 @@
 -- `devices::offer` meets its contract: the request is the one that the frame names. Assumes nothing.
 use mathlib.Core.Path.{subst}
 use mathlib.Mathlib.Logic.Function.Defs.{id}
-use Rattle.fastmodbus.specs.declared.RequestRead.{RequestRead}
+use Rattle.requests.specs.declared.RequestRead.{RequestRead}
 use Rattle.table.specs.Table.{columns}
 use Rattle.devices.specs.Calls.{Gives, askCall}
 use borrow.Author.Needs.{needs}

@@ -6,8 +6,8 @@ use native.Mathlib.Omega.{arith}
 use lib.ListN.{length}
 use Rattle.table.specs.Table.{columns, devices, valid}
 use Rattle.devices.specs.WholeScan.{Scanning, GivesScan}
-use Rattle.devices.specs.declared.guard.Guard.the-variants.{Passed, Refused}
-use Rattle.devices.proofs.GuardCases.{guard-of, guard-room, guard-valid}
+use Rattle.guard.specs.declared.Guard.the-variants.{Passed, Refused}
+use Rattle.guard.proofs.GuardCases.{guard-of, guard-room, guard-valid}
 use Rattle.devices.proofs.CallCases.{scan-refused, scan-passed, scan-refusing-is}
 use borrow.Author.Needs.{needs}
 use Rattle.devices.proofs.scan.Statement.{statement}

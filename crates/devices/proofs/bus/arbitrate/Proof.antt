@@ -2,9 +2,9 @@
 use mathlib.Core.Path.{sym, ap, _∙_}
 use lib.ListN.{length, take}
 use Rattle.arbitration.specs.Contest.{decided}
-use Rattle.devices.specs.Request.{keysOf, windows}
+use Rattle.turns.specs.Request.{keysOf, windows}
 use Rattle.lists.proofs.Filling.{start-of}
-use Rattle.devices.proofs.Keys.{keys-length}
+use Rattle.turns.proofs.Keys.{keys-length}
 use borrow.Author.Needs.{needs}
 use Rattle.devices.proofs.bus.arbitrate.Statement.{statement}
 use Rattle.devices.proofs.bus.arbitrate.Tie as tie

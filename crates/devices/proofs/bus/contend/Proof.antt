@@ -5,7 +5,7 @@ use native.Mathlib.Omega.{arith}
 use Rattle.arbitration.specs.declared.Decided.{Decided}
 use Rattle.table.specs.Table.{columns}
 use Rattle.table.proofs.Meaning.{tested}
-use Rattle.devices.proofs.TurnCases.{silent-is, found-is, end-is, place-inside}
+use Rattle.turns.proofs.TurnCases.{silent-is, found-is, end-is, place-inside}
 use borrow.Author.Needs.{needs}
 use Rattle.devices.proofs.bus.contend.Statement.{statement}
 use Rattle.devices.proofs.bus.contend.Tie as tie

@@ -1,7 +1,7 @@
 -- `devices::bus::key` meets its contract. Assumes nothing.
 use mathlib.Core.Path.{sym}
 use borrow.Author.Needs.{needs}
-use Rattle.devices.proofs.Keys.{key-unscanned, key-scanned}
+use Rattle.turns.proofs.Keys.{key-unscanned, key-scanned}
 use Rattle.devices.proofs.bus.key.Statement.{statement}
 use Rattle.devices.proofs.bus.key.Tie as tie
 

@@ -10,10 +10,10 @@ use borrow.Author.Needs.{needs}
 use borrow.Author.Tests.{ltb-true}
 use Rattle.lists.specs.Starting.{starting}
 use Rattle.table.specs.Table.{serialLimit, serialRight}
-use Rattle.devices.specs.Request.{keysOf}
+use Rattle.turns.specs.Request.{keysOf}
 use Rattle.lists.proofs.All.{all-at}
 use Rattle.lists.proofs.Filling.{starting-more}
-use Rattle.devices.proofs.Keys.{keys-length, keys-at}
+use Rattle.turns.proofs.Keys.{keys-length, keys-at}
 use Rattle.devices.proofs.bus.put_keys.Statement.{statement}
 use Rattle.devices.proofs.bus.put_keys.Tie as tie
 

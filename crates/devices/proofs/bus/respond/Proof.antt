@@ -4,8 +4,8 @@ use mathlib.Core.Bool.{true}
 use mathlib.Core.List.{List}
 use Prim.Native.Nat.{ℕ}
 use Rattle.table.specs.Table.{columns, valid}
-use Rattle.devices.proofs.TurnCases.{start-is, continue-is}
-use Rattle.devices.proofs.TurnKeeps.{cleared-valid}
+use Rattle.turns.proofs.TurnCases.{start-is, continue-is}
+use Rattle.turns.proofs.TurnKeeps.{cleared-valid}
 use borrow.Author.Needs.{needs}
 use Rattle.devices.proofs.bus.respond.Statement.{statement}
 use Rattle.devices.proofs.bus.respond.Tie as tie

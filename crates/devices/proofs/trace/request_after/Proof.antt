@@ -3,7 +3,7 @@ use mathlib.Core.Path.{sym, ap}
 use mathlib.Core.Bool.{Bool}
 use borrow.Author.Tests.{eq-eqb, ne-eqb}
 use Rattle.lists.specs.Choice.{pick}
-use Rattle.fastmodbus.specs.declared.Request.the-variants.{Start, Continue}
+use Rattle.requests.specs.declared.Request.the-variants.{Start, Continue}
 use Rattle.devices.proofs.trace.request_after.Statement.{statement}
 use Rattle.devices.proofs.trace.request_after.Tie as tie
 

@@ -5,7 +5,7 @@ use Prim.Native.Nat.{ℕ, _-_, _≤_}
 use native.Mathlib.Omega.{arith}
 use lib.ListN.{length, set, drop, replicate, length-set}
 use borrow.Author.Fill.{fill-more}
-use Rattle.fastmodbus.specs.Reading.{fill}
+use Rattle.answers.specs.Reading.{fill}
 use Rattle.devices.proofs.wire.put_fill.Statement.{statement}
 use Rattle.devices.proofs.wire.put_fill.Tie as tie
 

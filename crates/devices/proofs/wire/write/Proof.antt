@@ -2,10 +2,10 @@
 use mathlib.Core.Path.{_≡_, sym, ap, _∙_, subst}
 use Rattle.lists.specs.Starting.{starting}
 use Rattle.devices.specs.Calls.{answerBytes, responseTo}
-use Rattle.devices.specs.Inner.{Writable}
+use Rattle.turns.specs.Inner.{Writable}
 use Rattle.devices.specs.declared.Response.the-variants.{Answered}
-use Rattle.devices.specs.declared.bus.Answer.{Answer}
-use Rattle.devices.specs.declared.bus.Answer.the-variants.{Silence, Found, End}
+use Rattle.turns.specs.declared.Answer.{Answer}
+use Rattle.turns.specs.declared.Answer.the-variants.{Silence, Found, End}
 use Rattle.devices.proofs.AnswerBytes.{silence-bytes}
 use borrow.Author.Needs.{needs}
 use Rattle.devices.proofs.wire.write.Statement.{statement}

@@ -5,9 +5,9 @@ use native.Mathlib.Omega.{arith}
 use borrow.Rule.Slice.PartMut.{midOf}
 use lib.ListN.{length}
 use Rattle.refusal.specs.Output.{Output, left}
-use Rattle.fastmodbus.specs.Layout.{endFrame}
+use Rattle.answers.specs.Layout.{endFrame}
 use Rattle.devices.specs.Calls.{answerBytes}
-use Rattle.fastmodbus.proofs.FrameLengths.{end-written}
+use Rattle.answers.proofs.FrameLengths.{end-written}
 use Rattle.devices.proofs.AnswerBytes.{end-bytes-length, answer-put}
 use borrow.Author.Needs.{needs}
 use Rattle.devices.proofs.wire.write_end.Statement.{statement}

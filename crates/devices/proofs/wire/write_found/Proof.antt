@@ -4,9 +4,9 @@ use Prim.Native.Nat.{_-_}
 use borrow.Rule.Slice.PartMut.{midOf}
 use lib.ListN.{length}
 use Rattle.refusal.specs.Output.{Output, left}
-use Rattle.fastmodbus.specs.Layout.{foundFrame}
+use Rattle.answers.specs.Layout.{foundFrame}
 use Rattle.devices.specs.Calls.{answerBytes}
-use Rattle.fastmodbus.proofs.FrameLengths.{found-written}
+use Rattle.answers.proofs.FrameLengths.{found-written}
 use Rattle.devices.proofs.AnswerBytes.{found-bytes-length, answer-put}
 use borrow.Author.Needs.{needs}
 use Rattle.devices.proofs.wire.write_found.Statement.{statement}

@@ -1,7 +1,7 @@
 -- `exchange::attempt::acknowledged` meets its contract: each arm is what the acknowledge byte asks for.
 -- Assumes nothing.
 use mathlib.Core.Path.{sym, ap, _∙_, subst}
-use Rattle.ebus.specs.Logical.{logicalsAt}
+use Rattle.escapes.specs.Logical.{logicalsAt}
 use Rattle.exchange.specs.Exchange.{onAcknowledge}
 use Rattle.exchange.specs.Inner.{Ready, acknowledgeOf, attemptOf}
 use Rattle.exchange.specs.declared.attempt.Attempt.{Attempt as AttemptStruct}

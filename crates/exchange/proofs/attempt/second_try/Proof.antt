@@ -3,7 +3,7 @@
 use mathlib.Core.Path.{sym, ap, _∙_}
 use Prim.Native.Nat.{ℕ}
 use Rattle.refusal.specs.Number.{at-place}
-use Rattle.ebus.specs.Logical.{logicalsAt}
+use Rattle.escapes.specs.Logical.{logicalsAt}
 use Rattle.exchange.specs.Exchange.{neither, onSecond}
 use Rattle.exchange.specs.Inner.{attemptAs, triesOf}
 use Rattle.exchange.specs.declared.attempt.Tries.{Tries as TriesStruct}

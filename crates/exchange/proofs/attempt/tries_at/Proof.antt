@@ -2,7 +2,7 @@
 -- Assumes nothing.
 use mathlib.Core.Path.{refl, sym, ap, _∙_}
 use native.Mathlib.Omega.{arith}
-use Rattle.ebus.specs.Logical.{logicalsAt}
+use Rattle.escapes.specs.Logical.{logicalsAt}
 use Rattle.exchange.specs.Exchange.{onFirst, triesAt}
 use Rattle.exchange.specs.Inner.{attemptAs, triesOf}
 use Rattle.exchange.specs.declared.attempt.Tries.{Tries as TriesStruct}

@@ -3,7 +3,7 @@
 use mathlib.Core.Path.{refl, ap}
 use mathlib.Core.Bool.{false}
 use native.Mathlib.Omega.{arith}
-use Rattle.ebus.specs.Logical.{logicalsAt}
+use Rattle.escapes.specs.Logical.{logicalsAt}
 use Rattle.exchange.specs.Inner.{outcomeAs, repliesOf}
 use Rattle.exchange.proofs.Buffers.{refuses, accepts}
 use borrow.Author.Needs.{needs}

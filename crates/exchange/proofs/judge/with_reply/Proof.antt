@@ -3,8 +3,8 @@
 use mathlib.Core.Path.{sym, ap, _∙_}
 use mathlib.Core.Bool.{false}
 use mathlib.Core.List.{[]}
-use Rattle.ebus.specs.Logical.{logicalsAt}
-use Rattle.ebus.specs.declared.address.ExchangeKind.the-variants.{InitiatorTarget}
+use Rattle.escapes.specs.Logical.{logicalsAt}
+use Rattle.addresses.specs.declared.ExchangeKind.the-variants.{InitiatorTarget}
 use Rattle.exchange.specs.Exchange.{synAt, onReply}
 use Rattle.exchange.specs.Inner.{triesAs}
 use Rattle.exchange.proofs.OutcomeBySyn.{outcome-at}

@@ -2,7 +2,7 @@
 -- Assumes nothing.
 use mathlib.Core.List.{[]}
 use mathlib.Core.Bool.{false}
-use Rattle.ebus.specs.Logical.{logicalsAt}
+use Rattle.escapes.specs.Logical.{logicalsAt}
 use Rattle.exchange.specs.Exchange.{synAt}
 use Rattle.exchange.proofs.OutcomeBySyn.{outcome-at}
 use Rattle.exchange.proofs.FromRun.{ready-none}

@@ -6,7 +6,7 @@ use mathlib.Core.List.{List}
 use Prim.Native.Nat.{ℕ, _-_}
 use native.Mathlib.Omega.{arith}
 use lib.ListN.{length}
-use Rattle.ebus.specs.Logical.{logicalsAt}
+use Rattle.escapes.specs.Logical.{logicalsAt}
 use Rattle.exchange.proofs.Copying.{Copying, copying-length, copied, copy-within, copy-plain, copy-escape}
 use Rattle.exchange.proofs.wire.copy_logical.Statement.{statement}
 use Rattle.exchange.proofs.wire.copy_logical.Tie as tie

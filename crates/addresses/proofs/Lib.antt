@@ -1,0 +1,2 @@
+-- Laws of addresses that belong to no one function.
+pub mod Worked

@@ -1,0 +1,2 @@
+-- Addresses, rules E6 to E8.
+pub mod Address

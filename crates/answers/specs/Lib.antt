@@ -1,0 +1,4 @@
+-- The answers to a scan: their frames, how they are read and how they are written.
+pub mod Layout
+pub mod Reading
+pub mod Writing

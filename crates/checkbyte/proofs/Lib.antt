@@ -1,0 +1,4 @@
+-- Laws of the eBUS check byte that belong to no one function.
+pub mod CheckByte
+pub mod BitByBit
+pub mod Worked

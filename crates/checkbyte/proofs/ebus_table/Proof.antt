@@ -1,0 +1,16 @@
+-- `checkbyte::ebus_table` meets its contract: the constant passes the one test over all its entries, which antt computes.
+-- Assumes nothing.
+use mathlib.Core.Path.{refl}
+use Prim.Native.Nat.{ℕ}
+use lib.ListN.{replicate}
+use Rattle.crc.proofs.Table.{tested}
+use Rattle.checkbyte.specs.BitByBit.{ebusIn, ebusAll}
+use Rattle.checkbyte.proofs.ebus_table.Statement.{statement}
+use Rattle.checkbyte.proofs.ebus_table.Tie as tie
+
+returns : tie.Need-returns
+unfolding ebusAll ebusIn
+returns c = tested (λ (k : ℕ). ebusAll k (replicate 8 0)) _ refl tt
+
+pub ebus-table-spec : {M : Type 1} → statement M
+ebus-table-spec = tie.close (tie.spec returns)

@@ -1,0 +1,2 @@
+-- Laws of the calls on frames: what a request's number writes.
+pub mod RequestOutput

@@ -1,0 +1,2 @@
+-- What only the calls on frames have: a request by its number.
+pub mod RequestNumber

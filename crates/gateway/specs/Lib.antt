@@ -1,2 +1,0 @@
--- What only the calls for C have: a request by its number, and a part of a buffer as numbers.
-pub mod Lent

@@ -1,0 +1,2 @@
+-- The guard before every call.
+pub mod Guard

@@ -1,0 +1,3 @@
+-- Laws of the data of a reply.
+pub mod Data
+pub mod Worked

@@ -1,0 +1,2 @@
+-- The data of a reply, rule E17.
+pub mod Data

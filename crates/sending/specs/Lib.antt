@@ -1,0 +1,2 @@
+-- Telegrams as they are written.
+pub mod Sending
