@@ -1,25 +1,24 @@
 -- What a byte does to the eBUS register, by any table that passes the test of crc/proofs/Table.antt, and one turn of the
 -- check's loop: the byte at i enters the register, escaped, and what is left starts at i + 1.
 -- Assumes nothing.
-use mathlib.Core.Path.{_≡_, refl, sym, ap, ap₂, _∙_, subst}
-use mathlib.Core.List.{List, [], _∷_}
+use mathlib.Core.Path.{_≡_, sym, ap, ap₂, _∙_, subst}
+use mathlib.Core.List.{List, _∷_}
 use mathlib.Core.Logic.{_⊎_, ⊎-elim}
-use Prim.Native.Nat.{ℕ, zero, suc, _+_, _-_, _*_, _≤_, _<_}
+use Prim.Native.Nat.{ℕ, _+_, _-_, _*_, _≤_, _<_}
 use native.Mathlib.Nat.{mod-one, div-one, mod-eq-of-lt}
 use native.Mathlib.Omega.{arith}
 use lib.Bits.{bitXor, xor-lt, xor-comm, xor-shifted}
 use lib.Dec.{lit<, lit≤}
-use lib.ListN.{length, getD, take, drop, drop-of-length-le}
-use lib.Seq.{getD-drop}
-use Rattle.lists.proofs.Filling.{drop-next}
+use lib.ListN.{length, getD, replicate, take, drop}
+use lib.Seq.{getD-take, getD-drop}
 use Rattle.crc.specs.Register.{left, steps, enter, bits}
 use Rattle.crc.proofs.Xor.{xor-assoc}
-use Rattle.crc.proofs.Register.{enter-spelled, bits-are-bits, spelled-bits}
+use Rattle.crc.proofs.Register.{steps-xor, enter-spelled, bits-are-bits, spelled-bits}
 use Rattle.crc.proofs.Table.{IsTable, entry-lt, by-table}
 use Rattle.escapes.specs.Escape.{esc, syn, expanded}
 use Rattle.escapes.proofs.Escaped.{expanded-plain, expanded-special}
 use Rattle.checkbyte.specs.Check.{ebusPolynomial, ebusBytes}
-use Rattle.checkbyte.specs.BitByBit.{EbusTable, checkFrom, checkBy}
+use Rattle.checkbyte.specs.BitByBit.{ebusAll, EbusTables}
 use Rattle.checkbyte.proofs.BitByBit.{ebus-table}
 
 module _ {table : List ℕ} (t : IsTable left 8 ebusPolynomial table) (r b : ℕ) (hr : r < 256) (hb : b < 256) where
@@ -77,38 +76,59 @@ above x y hx hy =
 pub table-lt : {table : List ℕ} → IsTable left 8 ebusPolynomial table → (k : ℕ) → k < 256 → getD table k 0 < 256
 table-lt {table} t k hk = entry-lt left 8 ebusPolynomial table t (lit< tt) (lit≤ tt) k hk
 
--- ---- raw bytes, in which escapes are expanded already, by any table
+-- ---- two bytes a step, by both tables
 
--- one turn of a loop over them
-pub check-turn : (table raw : List ℕ) (i r : ℕ) → i < length raw
-    → checkFrom table r (drop i raw) ≡ checkFrom table (bitXor (getD table r 0) (getD raw i 0)) (drop (i + 1) raw)
-unfolding checkFrom
-check-turn table raw i r h = ap (checkFrom table r) (drop-next raw i h)
+module _ {tables : List ℕ} (t : EbusTables tables) where
+  is-table : IsTable left 8 ebusPolynomial (take 256 tables)
+  is-table = ebus-table (t .one)
 
-pub check-end : (table raw : List ℕ) (i r : ℕ) → length raw ≤ i → checkFrom table r (drop i raw) ≡ r
-unfolding checkFrom
-check-end table raw i r h = ap (checkFrom table r) (drop-of-length-le raw h)
+  low : (k : ℕ) → k < 256 → getD (take 256 tables) k 0 ≡ getD tables k 0
+  low k h = getD-take 256 tables k 0 h
 
-abbrev pub Bytes : List ℕ → Type 0
-Bytes raw = (i : ℕ) → getD raw i 0 < 256
+  pub low-lt : (k : ℕ) → k < 256 → getD tables k 0 < 256
+  low-lt k h = subst (λ (x : ℕ). x < 256) (low k h) (table-lt is-table k h)
 
--- a part of bytes is bytes
-first-bytes : (raw : List ℕ) (n : ℕ) → Bytes raw → Bytes (take n raw)
-first-bytes raw zero each i = lit< tt
-first-bytes [] (suc n) each i = lit< tt
-first-bytes (b ∷ bs) (suc n) each zero = each 0
-first-bytes (b ∷ bs) (suc n) each (suc i) = first-bytes bs n (λ (k : ℕ). each (suc k)) i
+  -- eight steps, by the first table
+  eight : (k : ℕ) → k < 256 → steps left 8 ebusPolynomial 8 k ≡ getD tables k 0
+  eight k h = eight-left is-table k 0 h (lit< tt) ∙ low k h
 
-pub part-bytes : (raw : List ℕ) (from n : ℕ) → Bytes raw → Bytes (take n (drop from raw))
-part-bytes raw from n each = first-bytes (drop from raw) n (λ (i : ℕ). subst (λ (x : ℕ). x < 256) (sym (getD-drop from raw i 0)) (each (from + i)))
+  -- sixteen steps are eight and then eight
+  twice : (r : ℕ) → r < 256 → getD tables (256 + r) 0 ≡ getD tables (getD tables r 0) 0
+  unfolding ebusAll
+  twice r hr =
+      let first : ebusAll r (replicate 8 0) ≡ getD tables r 0 = sym (t .one .entry r hr) ∙ low r hr in
+      let hx = low-lt r hr in
+      sym (getD-drop 256 tables r 0)
+      ∙ t .two .entry r hr
+      ∙ ap (λ (k : ℕ). ebusAll k (replicate 8 0)) first
+      ∙ sym (t .one .entry (getD tables r 0) hx) ∙ low (getD tables r 0) hx
 
--- by the eBUS table it is the eBUS check
-by-register : {table : List ℕ} → IsTable left 8 ebusPolynomial table → (raw : List ℕ) (r : ℕ) → r < 256 → Bytes raw → checkFrom table r raw ≡ ebusBytes r raw
-unfolding checkFrom ebusBytes
-by-register t [] r hr each = refl
-by-register {table} t (b ∷ bs) r hr each =
-    by-register t bs (bitXor (getD table r 0) b) (ebus-lt t r b hr (each 0)) (λ (i : ℕ). each (suc i))
-    ∙ ap (λ (x : ℕ). ebusBytes x bs) (sym (ebus-byte t r b hr (each 0)))
+  pub high-lt : (r : ℕ) → r < 256 → getD tables (256 + r) 0 < 256
+  high-lt r hr = subst (λ (x : ℕ). x < 256) (sym (twice r hr)) (low-lt (getD tables r 0) (low-lt r hr))
 
-pub by-ebus-table : {table : List ℕ} → EbusTable table → (raw : List ℕ) → Bytes raw → checkBy table raw ≡ ebusBytes 0x00 raw
-by-ebus-table t raw each = by-register (ebus-table t) raw 0x00 (lit< tt) each
+  module _ (r b : ℕ) (hr : r < 256) (hb : b < 256) where
+    pub one-lt : bitXor (getD tables r 0) b < 256
+    one-lt = xor-lt 8 (getD tables r 0) b (low-lt r hr) hb
+
+    pub one-byte : (rest : List ℕ) → ebusBytes r (b ∷ rest) ≡ ebusBytes (bitXor (getD tables r 0) b) rest
+    unfolding ebusBytes
+    one-byte rest = ap (λ (x : ℕ). ebusBytes x rest) (ebus-byte is-table r b hr hb ∙ ap (λ (x : ℕ). bitXor x b) (low r hr))
+
+  module _ (r a b : ℕ) (hr : r < 256) (ha : a < 256) (hb : b < 256) where
+    -- the table is linear over xor
+    both : getD tables (bitXor (getD tables r 0) a) 0 ≡ bitXor (getD tables (256 + r) 0) (getD tables a 0)
+    both =
+        let x = getD tables r 0 in
+        let hx : x < 256 = low-lt r hr in
+        sym (eight (bitXor x a) (xor-lt 8 x a hx ha))
+        ∙ steps-xor left 8 ebusPolynomial (lit< tt) 8 x a hx ha
+        ∙ ap₂ bitXor (eight x hx ∙ sym (twice r hr)) (eight a ha)
+
+    pub two-lt : bitXor (getD tables (256 + r) 0) (bitXor (getD tables a 0) b) < 256
+    two-lt = xor-lt 8 _ _ (high-lt r hr) (one-lt a b ha hb)
+
+    pub two-bytes : (rest : List ℕ) → ebusBytes r (a ∷ b ∷ rest) ≡ ebusBytes (bitXor (getD tables (256 + r) 0) (bitXor (getD tables a 0) b)) rest
+    two-bytes rest =
+        one-byte r a hr ha (b ∷ rest)
+        ∙ one-byte (bitXor (getD tables r 0) a) b (one-lt r a hr ha) hb rest
+        ∙ ap (λ (x : ℕ). ebusBytes x rest) (ap (λ (x : ℕ). bitXor x b) both ∙ xor-assoc (getD tables (256 + r) 0) (getD tables a 0) b)

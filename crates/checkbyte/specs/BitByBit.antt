@@ -7,7 +7,7 @@ use Prim.Native.Nat.{ℕ, _+_, _-_, _*_, _<_}
 use mathlib.Core.List.{List, [], _∷_}
 use lib.Bits.{bitXor}
 use lib.Dec.{ltb}
-use lib.ListN.{getD, replicate}
+use lib.ListN.{replicate, take, drop}
 use Rattle.lists.specs.Choice.{pick}
 use Rattle.crc.specs.Register.{bits}
 use Rattle.crc.specs.BitByBit.{TableOf}
@@ -38,11 +38,11 @@ LoneByte = (b : ℕ) → b < esc → ebusCheck (b ∷ []) ≡ b
 abbrev pub EbusTable : List ℕ → Type 0
 EbusTable table = TableOf (λ (k : ℕ). ebusAll k (replicate 8 0)) table
 
--- the check of raw bytes by any table: each byte is added to the entry that the running value picks
-unfoldable pub checkFrom : List ℕ → ℕ → List ℕ → ℕ
-checkFrom table running [] = running
-checkFrom table running (b ∷ bs) = checkFrom table (bitXor (getD table running 0) b) bs
+-- .. and sixteen zero bits, those of two bytes
+abbrev pub EbusTwice : List ℕ → Type 0
+EbusTwice table = TableOf (λ (k : ℕ). ebusAll k (replicate 16 0)) table
 
--- .. starting at 00; by the eBUS table it is the check of Check.antt (proofs/CheckByte.antt)
-abbrev pub checkBy : List ℕ → List ℕ → ℕ
-checkBy table raw = checkFrom table 0x00 raw
+-- both, one behind the other
+pub record EbusTables (tables : List ℕ) : Type 0 where
+  pub one : EbusTable (take 256 tables)
+  pub two : EbusTwice (drop 256 tables)

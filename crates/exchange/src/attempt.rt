@@ -2,9 +2,9 @@
 //
 // A refusal is returned as soon as it is met. Nothing is stored: an attempt says where it ends, and
 // its bytes are taken from the run once the exchange is accepted.
+use crate::wire::wire_check;
 use addresses::ExchangeKind;
 use addresses::kind;
-use checkbyte::wire_check;
 use escapes::SYN;
 use refusal::BUS_ERROR;
 use refusal::CHECK_WRONG;
@@ -22,7 +22,7 @@ ghost use mathlib.Core.Bool.{Bool, true, _&&_};
 ghost use Rattle.refusal.specs.Number.{at-place};
 ghost use Rattle.escapes.specs.Logical.{logicalsAt};
 ghost use Rattle.addresses.specs.Address.{kindOf};
-ghost use Rattle.checkbyte.specs.BitByBit.{EbusTable};
+ghost use Rattle.checkbyte.specs.BitByBit.{EbusTables};
 ghost use Rattle.exchange.specs.Exchange.{acknowledgeAt, settled, onAcknowledge, toAll, attemptAt, nackedTwice, onSecond, triesAt};
 ghost use Rattle.exchange.specs.declared.attempt.Standing.the-variants.{Failed};
 ghost use Rattle.exchange.specs.declared.attempt.Tried.the-variants.{Neither};
@@ -131,13 +131,13 @@ fn attempt_ended(len: usize, next: usize, standing: Standing) -> Attempt
 
 // An acknowledged attempt, or a broadcast: its check byte is judged now, by the raw bytes before it,
 // in which escapes are expanded already.
-fn settle(run: &[u8], table: &[u8; 256], start: usize, t: Extent, next: usize) -> Attempt
-    requires { ⌜ EbusTable (now table) × ReadFrom (now run) start t ⌝ }
+fn settle(run: &[u8], tables: &[u8; 512], start: usize, t: Extent, next: usize) -> Attempt
+    requires { ⌜ EbusTables (now tables) × ReadFrom (now run) start t ⌝ }
     ensures { λ r. ⌜ attemptOf r (now (run .entry)) start ≡ settled (logicalsAt (now (run .entry)) (t .len) start) (t .last) next ⌝ }
     ensures { λ r. ⌜ ((command : Bool) → Ready command (now (run .entry)) start (t .len) → Ready command (now (run .entry)) start (r .len)) ⌝ }
 {
     let last = t.last;
-    if wire_check(table, &run[start..last]) == t.value {
+    if wire_check(tables, &run[start..last]) == t.value {
         return attempt_ended(t.len, next, Standing::Taken);
     }
     attempt_failed(Refusal {
@@ -147,14 +147,14 @@ fn settle(run: &[u8], table: &[u8; 256], start: usize, t: Extent, next: usize) -
 }
 
 // An attempt whose acknowledge byte is due next.
-fn acknowledged(run: &[u8], table: &[u8; 256], start: usize, t: Extent) -> Attempt
-    requires { ⌜ EbusTable (now table) × ReadFrom (now run) start t ⌝ }
+fn acknowledged(run: &[u8], tables: &[u8; 512], start: usize, t: Extent) -> Attempt
+    requires { ⌜ EbusTables (now tables) × ReadFrom (now run) start t ⌝ }
     ensures { λ r. ⌜ attemptOf r (now (run .entry)) start ≡ onAcknowledge (logicalsAt (now (run .entry)) (t .len) start) (t .last) (acknowledgeAt (now (run .entry)) (t .next)) ⌝ }
     ensures { λ r. ⌜ ((command : Bool) → Ready command (now (run .entry)) start (t .len) → Ready command (now (run .entry)) start (r .len)) ⌝ }
 {
     let byte = acknowledge_at(run, t.next);
     match byte {
-        Acknowledge::Positive(next) => settle(run, table, start, t, next),
+        Acknowledge::Positive(next) => settle(run, tables, start, t, next),
         Acknowledge::Negative(place) => attempt_ended(t.len, place, Standing::Nacked),
         Acknowledge::Invalid(why) => attempt_failed(why),
     }
@@ -187,8 +187,8 @@ fn is_unanswered(run: &[u8], command: bool, at: usize) -> bool
 //
 // The run is handed on as a part that is all of it: handed on as it came it would be copied whole
 // where its two halves were stored just before, and the copy would wait for them.
-pub(crate) fn attempt_at(run: &[u8], table: &[u8; 256], command: bool, at: usize) -> Attempt
-    requires { ⌜ EbusTable (now table) ⌝ }
+pub(crate) fn attempt_at(run: &[u8], tables: &[u8; 512], command: bool, at: usize) -> Attempt
+    requires { ⌜ EbusTables (now tables) ⌝ }
     ensures { λ r. ⌜ attemptOf r (now (run .entry)) at ≡ attemptAt command (now (run .entry)) at ⌝ }
     ensures { λ r. ⌜ Ready command (now (run .entry)) at (r .len) ⌝ }
 {
@@ -199,9 +199,9 @@ pub(crate) fn attempt_at(run: &[u8], table: &[u8; 256], command: bool, at: usize
         return attempt_failed(why);
     }
     if is_unanswered(run, command, at) {
-        return settle(run, table, at, t, t.next);
+        return settle(run, tables, at, t, t.next);
     }
-    acknowledged(run, table, at, t)
+    acknowledged(run, tables, at, t)
 }
 
 fn no_tries(why: Refusal) -> Tries
@@ -228,13 +228,13 @@ fn nacked_twice(command: bool) -> u8
 }
 
 // The second attempt, behind a first one of so many bytes that was NACKed.
-fn second_try(run: &[u8], table: &[u8; 256], command: bool, len: usize, at: usize) -> Tries
-    requires { ⌜ EbusTable (now table) ⌝ }
+fn second_try(run: &[u8], tables: &[u8; 512], command: bool, len: usize, at: usize) -> Tries
+    requires { ⌜ EbusTables (now tables) ⌝ }
     ensures { λ r. ⌜ ((start : ℕ) → triesOf r (now (run .entry)) start ≡ onSecond command (logicalsAt (now (run .entry)) len start) (attemptAt command (now (run .entry)) at)) ⌝ }
     ensures { λ r. ⌜ ((start : ℕ) → Ready command (now (run .entry)) start len → Ready command (now (run .entry)) start (r .len1)) × Ready command (now (run .entry)) (r .second) (r .len2) ⌝ }
     ensures { λ r. ⌜ SecondRead command (now (run .entry)) r ⌝ }
 {
-    let a = attempt_at(run, table, command, at);
+    let a = attempt_at(run, tables, command, at);
     let standing = a.standing;
     let why = a.why;
     match standing {
@@ -255,13 +255,13 @@ fn second_try(run: &[u8], table: &[u8; 256], command: bool, len: usize, at: usiz
 }
 
 // One attempt at a command or reply, or two where the first was NACKed.
-pub(crate) fn tries_at(run: &[u8], table: &[u8; 256], command: bool, at: usize) -> Tries
-    requires { ⌜ EbusTable (now table) ⌝ }
+pub(crate) fn tries_at(run: &[u8], tables: &[u8; 512], command: bool, at: usize) -> Tries
+    requires { ⌜ EbusTables (now tables) ⌝ }
     ensures { λ r. ⌜ triesOf r (now (run .entry)) at ≡ triesAt command (now (run .entry)) at ⌝ }
     ensures { λ r. ⌜ Ready command (now (run .entry)) at (r .len1) × Ready command (now (run .entry)) (r .second) (r .len2) ⌝ }
     ensures { λ r. ⌜ SecondRead command (now (run .entry)) r ⌝ }
 {
-    let a = attempt_at(run, table, command, at);
+    let a = attempt_at(run, tables, command, at);
     let standing = a.standing;
     let why = a.why;
     match standing {
@@ -273,7 +273,7 @@ pub(crate) fn tries_at(run: &[u8], table: &[u8; 256], command: bool, at: usize) 
             tried: Tried::Once,
             why,
         },
-        Standing::Nacked => second_try(run, table, command, a.len, a.next + 1),
+        Standing::Nacked => second_try(run, tables, command, a.len, a.next + 1),
         Standing::Failed => no_tries(why),
     }
 }

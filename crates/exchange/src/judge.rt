@@ -7,7 +7,7 @@ use crate::attempt::tries_at;
 use crate::wire::copy_logical;
 use addresses::ExchangeKind;
 use addresses::kind;
-use checkbyte::ebus_table;
+use checkbyte::ebus_tables;
 use escapes::SYN;
 use refusal::BUS_ERROR;
 use refusal::OUTPUT_SHORT;
@@ -24,7 +24,7 @@ ghost use lib.ListN.{length};
 ghost use Rattle.refusal.specs.Number.{outputShort, at-place};
 ghost use Rattle.escapes.specs.Logical.{logicalsAt};
 ghost use Rattle.addresses.specs.Address.{kindOf};
-ghost use Rattle.checkbyte.specs.BitByBit.{EbusTable};
+ghost use Rattle.checkbyte.specs.BitByBit.{EbusTables};
 ghost use Rattle.telegram.specs.Telegram.{replyRoom};
 ghost use Rattle.exchange.specs.Exchange.{synAt, rejected, onEnd, onReply, onKind, triesAt, exchangeAt, rooms, judged};
 ghost use Rattle.exchange.specs.View.{answered, Judges};
@@ -79,12 +79,12 @@ fn without_reply(run: &[u8], kind: ExchangeKind, commands: u8, at: usize) -> Rep
 }
 
 // Behind a command whose reply is due: the attempts at it.
-fn with_reply(run: &[u8], table: &[u8; 256], commands: u8, at: usize) -> Replies
-    requires { ⌜ EbusTable (now table) ⌝ }
+fn with_reply(run: &[u8], tables: &[u8; 512], commands: u8, at: usize) -> Replies
+    requires { ⌜ EbusTables (now tables) ⌝ }
     ensures { λ r. ⌜ ((command : List ℕ) → repliesOf r (now (run .entry)) at command ≡ onReply commands command (now (run .entry)) (triesAt false (now (run .entry)) at)) ⌝ }
     ensures { λ r. ⌜ Ready false (now (run .entry)) at (r .len1) × Ready false (now (run .entry)) (r .second) (r .len2) ⌝ }
 {
-    let t = tries_at(run, table, false, at);
+    let t = tries_at(run, tables, false, at);
     let tried = t.tried;
     let why = t.why;
     match tried {
@@ -110,8 +110,14 @@ fn with_reply(run: &[u8], table: &[u8; 256], commands: u8, at: usize) -> Replies
 }
 
 // Behind an accepted command, by its destination.
-fn after_command(run: &[u8], table: &[u8; 256], commands: u8, destination: u8, at: usize) -> Replies
-    requires { ⌜ EbusTable (now table) ⌝ }
+fn after_command(
+    run: &[u8],
+    tables: &[u8; 512],
+    commands: u8,
+    destination: u8,
+    at: usize,
+) -> Replies
+    requires { ⌜ EbusTables (now tables) ⌝ }
     ensures { λ r. ⌜ ((command : List ℕ) → repliesOf r (now (run .entry)) at command ≡ onKind commands command (now (run .entry)) at (kindOf destination)) ⌝ }
     ensures { λ r. ⌜ Ready false (now (run .entry)) at (r .len1) × Ready false (now (run .entry)) (r .second) (r .len2) ⌝ }
 {
@@ -121,7 +127,7 @@ fn after_command(run: &[u8], table: &[u8; 256], commands: u8, destination: u8, a
         ExchangeKind::InitiatorInitiator => {
             without_reply(run, ExchangeKind::InitiatorInitiator, commands, at)
         }
-        ExchangeKind::InitiatorTarget => with_reply(run, table, commands, at),
+        ExchangeKind::InitiatorTarget => with_reply(run, tables, commands, at),
     }
 }
 
@@ -176,7 +182,7 @@ fn have_room(command: usize, first: usize, second: usize) -> bool
 }
 
 // Judges the exchange whose command starts at a position, into buffers that have room. Neither SRC
-// nor DST is ever escaped, so that DST is the command's second raw byte. The table of the check is
+// nor DST is ever escaped, so that DST is the command's second raw byte. The tables of the check are
 // taken here, once for all attempts.
 fn judge_at(
     run: &[u8],
@@ -188,18 +194,18 @@ fn judge_at(
     requires { ⌜ rooms (length (now command)) (length (now «reply_1»)) (length (now «reply_2»)) ≡ true ⌝ }
     ensures { λ r. ⌜ Judges id (exchangeAt (now (run .entry)) at) r (now (command .entry)) (now (command .exit)) (now («reply_1» .entry)) (now («reply_1» .exit)) (now («reply_2» .entry)) (now («reply_2» .exit)) ⌝ }
 {
-    let table = ebus_table();
-    let t = tries_at(run, &table, true, at);
+    let tables = ebus_tables();
+    let t = tries_at(run, &tables, true, at);
     let tried = t.tried;
     let why = t.why;
     match tried {
         Tried::Once => {
-            let e = after_command(run, &table, 1, run[at + 1], t.next);
+            let e = after_command(run, &tables, 1, run[at + 1], t.next);
             finish(run, at, t.len1, t.next, e, command, reply_1, reply_2)
         }
         Tried::Twice => {
             let second = t.second;
-            let e = after_command(run, &table, 2, run[second + 1], t.next);
+            let e = after_command(run, &tables, 2, run[second + 1], t.next);
             finish(run, second, t.len2, t.next, e, command, reply_1, reply_2)
         }
         Tried::Neither => Judged::Refused(why),

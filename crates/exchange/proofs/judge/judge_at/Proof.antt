@@ -11,8 +11,8 @@ use borrow.Author.Needs.{needs}
 use Rattle.exchange.proofs.judge.judge_at.Statement.{statement}
 use Rattle.exchange.proofs.judge.judge_at.Tie as tie
 
-ebus-table-requires : tie.Need-ebus-table-requires
-ebus-table-requires c κs = search needs
+ebus-tables-requires : tie.Need-ebus-tables-requires
+ebus-tables-requires c κs = search needs
 
 tries-at-requires : tie.Need-tries-at-requires
 tries-at-requires c κs = search needs
@@ -92,7 +92,7 @@ pub judge-at-spec : {M : Type 1} → statement M
 judge-at-spec =
     tie.close
     (tie.spec
-    ebus-table-requires
+    ebus-tables-requires
     tries-at-requires
     enum-told
     add-after-command

@@ -1,4 +1,4 @@
--- `checkbyte::ebus_check` meets its contract. The loop's invariant: the check of all bytes is the check that the register
+-- `checkbyte::by_bytes` meets its contract. The loop's invariant: the check of all bytes is the check that the register
 -- gives over the bytes not yet read, and the running value is the register, of 8 bits, with a bit above. Assumes nothing.
 use mathlib.Core.Path.{_≡_, refl, sym, ap, _∙_}
 use Prim.Native.Nat.{ℕ, _+_, _-_, _≤_, _<_}
@@ -15,8 +15,8 @@ use Rattle.checkbyte.specs.Check.{ebusPolynomial, ebusBytes, ebusCheck}
 use Rattle.checkbyte.proofs.CheckByte.{ebus-lt, ebus-turn-plain, ebus-turn-special, ebus-special-lt, above, table-lt}
 use Rattle.checkbyte.proofs.BitByBit.{ebus-table}
 use borrow.Author.Needs.{needs}
-use Rattle.checkbyte.proofs.ebus_check.Statement.{statement}
-use Rattle.checkbyte.proofs.ebus_check.Tie as tie
+use Rattle.checkbyte.proofs.by_bytes.Statement.{statement}
+use Rattle.checkbyte.proofs.by_bytes.Tie as tie
 
 abbrev Inv-loop : tie.InvT-loop
 Inv-loop logical table running₀ i₀ running i =
@@ -58,7 +58,7 @@ cast-running : tie.Need-cast-running Inv-loop μ-loop
 cast-running c =
     let l = c .before .before .before .before .loop in
     let second = ebus-lt (l .inv .0) (l .running - 256) esc (omega arith) (lit< tt) in
-    omega (arith, table-lt (l .inv .0) _ second)
+    omega (arith, table-lt (l .inv .0) _ second, table-lt (l .inv .0) (l .running - 256) (omega arith))
 
 cast-running-2 : tie.Need-cast-running-2 Inv-loop μ-loop
 cast-running-2 c = omega (arith, c .if2 .taken)
@@ -136,8 +136,8 @@ unfolding ebusBytes expanded ebusCheck
 returns c =
     sym (ap (λ l. ebusBytes (c .before .loop .running - 256) (expanded l)) (drop-of-length-le (c .before .before .before .before .args .logical .now) (c .loop-test .left))) ∙ c .before .loop .inv .4
 
-pub ebus-check-spec : {M : Type 1} → statement M
-ebus-check-spec =
+pub by-bytes-spec : {M : Type 1} → statement M
+by-bytes-spec =
     tie.close
     (tie.spec
     Inv-loop
