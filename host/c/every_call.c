@@ -1,9 +1,9 @@
 /*
  * every_call.c - every function of moortinker.h on the worked examples of
- * document 01 (W1 to W14) and on its edges.
+ * docs/RULES.md (W1 to W14) and on its edges.
  *
  * Each call prints a line with what it gave. What it gave is compared with
- * what document 01 says; a difference is printed below the line. The last line
+ * what they say; a difference is printed below the line. The last line
  * counts both. Exit status 1 if anything differs.
  */
 #include "moortinker.h"

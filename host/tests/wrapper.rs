@@ -1,4 +1,4 @@
-//! The wrapper held to document 01: the rows marked W, every number with its
+//! The wrapper held to the rules: the rows marked W, every number with its
 //! place, what stays on a refusal, the edges, and empty inputs.
 
 use std::fmt::Debug;

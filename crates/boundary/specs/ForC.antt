@@ -1,7 +1,6 @@
--- Each answer as a struct that C can take. It holds the numbers that stand beside the answer's enum, by their names: rule
+-- Each answer of writers and of eBUS as a struct that C can take. It holds the numbers that stand beside the answer's enum, by their names: rule
 -- N1's number, 0 where nothing is refused, its place, and the values, of which one that is not there is 0.
 -- Assumes nothing.
-use Prim.Native.Nat.{ℕ, _-_}
 use lib.ListN.{length, replicate}
 use Rattle.lists.specs.Starting.{starting}
 use Rattle.refusal.specs.Numbers.{Numbers, value, writtenNumbers}
@@ -12,26 +11,12 @@ use Rattle.telegram.specs.Telegram.{Telegram, read, unread}
 use Rattle.replies.specs.Data.{Part}
 use Rattle.telegram.specs.declared.Telegram.{Telegram as ByValue}
 use Rattle.exchange.specs.declared.judge.Judged.{Judged}
-use Rattle.requests.specs.Reading.{requestNumbers}
-use Rattle.answers.specs.Reading.{answerNumbers}
-use Rattle.requests.specs.declared.RequestRead.{RequestRead}
-use Rattle.answers.specs.declared.AnswerRead.{AnswerRead}
-use Rattle.arbitration.specs.declared.Decided.{Decided}
-use Rattle.devices.specs.declared.Response.{Response}
-use Rattle.devices.specs.declared.Scanned.{Scanned}
-use Rattle.devices.specs.declared.Scanned.the-variants.{Complete, Nobody, Unfinished, Refused}
 use Rattle.exchange.specs.View.{judgedNumbers}
-use Rattle.devices.specs.Calls.{responseNumbers}
-use Rattle.devices.specs.WholeScan.{scannedNumbers}
 use Rattle.boundary.specs.declared.MoorWritten.{MoorWritten}
 use Rattle.boundary.specs.declared.MoorLogical.{MoorLogical}
 use Rattle.boundary.specs.declared.MoorTelegram.{MoorTelegram}
 use Rattle.boundary.specs.declared.MoorPart.{MoorPart}
 use Rattle.boundary.specs.declared.MoorJudged.{MoorJudged}
-use Rattle.boundary.specs.declared.MoorRequestRead.{MoorRequestRead}
-use Rattle.boundary.specs.declared.MoorAnswerRead.{MoorAnswerRead}
-use Rattle.boundary.specs.declared.MoorDecided.{MoorDecided}
-use Rattle.boundary.specs.declared.MoorScanned.{MoorScanned}
 
 -- how many bytes were written
 abbrev pub lengthForC : Numbers → MoorWritten
@@ -39,9 +24,6 @@ lengthForC n = record { number = n .number; place = n .place; length = value n 0
 
 abbrev pub writtenForC : Written → MoorWritten
 writtenForC x = lengthForC (writtenNumbers x)
-
-abbrev pub responseForC : Response → MoorWritten
-responseForC x = lengthForC (responseNumbers x)
 
 abbrev pub logicalForC : Logical → MoorLogical
 logicalForC x =
@@ -68,29 +50,3 @@ abbrev pub judgedForC : Judged → MoorJudged
 judgedForC x =
     let n = judgedNumbers x in
     record { number = n .number; kind = value n 0; «command_attempts» = value n 1; «reply_attempts» = value n 2; place = n .place; read = value n 3 }
-
-abbrev pub requestForC : RequestRead → MoorRequestRead
-requestForC x =
-    let n = requestNumbers x in
-    record { number = n .number; request = value n 0; place = n .place }
-
-abbrev pub answerForC : AnswerRead → MoorAnswerRead
-answerForC x =
-    let n = answerNumbers x in
-    record { number = n .number; answer = value n 0; address = value n 2; serial = value n 1; place = n .place }
-
--- the key that remains and the dominant windows; who has that key is not told
-abbrev pub decidedForC : Decided → MoorDecided
-decidedForC d = record { key = d .key; dominant = d .dominant }
-
-abbrev pub scannedForC : Scanned → ℕ → MoorScanned
-scannedForC x heard =
-    let n = scannedNumbers x heard in
-    record { number = n .number; end = value n 0; place = n .place; requests = value n 1; found = value n 2 }
-
--- how many devices were heard by a scan's answer alone: one less than the requests where the last one found no device
-abbrev pub foundBy : Scanned → ℕ
-foundBy (Complete n) = n - 1
-foundBy (Nobody n) = n - 1
-foundBy (Unfinished n) = n
-foundBy (Refused why) = 0

@@ -1,44 +1,23 @@
-// The answers as structs that C can take, and how the answers of the crates below become them; a
-// telegram and a part of a reply are made in `telegramcalls`.
+// The answers of writers and of eBUS as structs that C can take, and how the answers of the crates below
+// become them; a telegram and a part of a reply are made in `telegramcalls`.
 //
 // In an answer of a call that can refuse the number is 0 where the call was accepted, and else rule
 // N1's number with the place beside it; the other values are then 0.
 use addresses::ExchangeKind;
-use answers::AnswerRead;
-use arbitration::Decided;
-use devices::Response;
-use devices::Scanned;
 use escapes::Logical;
 use exchange::judge::Judged;
 use refusal::Refusal;
 use refusal::Written;
-use requests::Request;
-use requests::RequestRead;
 ghost use mathlib.Core.Path.{_≡_};
-ghost use Prim.Native.Nat.{_-_};
 ghost use Rattle.addresses.specs.Address.{kindNumber};
-ghost use Rattle.boundary.specs.ForC.{writtenForC, responseForC, decidedForC, logicalForC, judgedForC, requestForC, answerForC, foundBy, scannedForC};
+ghost use Rattle.boundary.specs.ForC.{writtenForC, logicalForC, judgedForC};
 
-// The numbers of the kinds, of requests and answers, and of a scan's end.
+// The numbers of the kinds.
 const BROADCAST: u8 = 1;
 
 const INITIATOR_INITIATOR: u8 = 2;
 
 const INITIATOR_TARGET: u8 = 3;
-
-pub const START: u8 = 1;
-
-pub const CONTINUE: u8 = 2;
-
-const FOUND: u8 = 3;
-
-const END: u8 = 4;
-
-const COMPLETE: u8 = 1;
-
-const NOBODY: u8 = 2;
-
-const UNFINISHED: u8 = 3;
 
 // What a call that writes gives: the length of what it wrote.
 #[repr(C)]
@@ -88,41 +67,6 @@ pub struct MoorPart {
     pub length: usize,
 }
 
-// A request that was read: start or continue.
-#[repr(C)]
-pub struct MoorRequestRead {
-    pub number: u8,
-    pub request: u8,
-    pub place: usize,
-}
-
-// An answer that was read: a device found with serial and address, or the end.
-#[repr(C)]
-pub struct MoorAnswerRead {
-    pub number: u8,
-    pub answer: u8,
-    pub address: u8,
-    pub serial: u32,
-    pub place: usize,
-}
-
-// The key that remains, and how many windows were dominant.
-#[repr(C)]
-pub struct MoorDecided {
-    pub key: u32,
-    pub dominant: usize,
-}
-
-// A whole scan: how it ended, the requests sent, and how many devices were heard.
-#[repr(C)]
-pub struct MoorScanned {
-    pub number: u8,
-    pub end: u8,
-    pub place: usize,
-    pub requests: usize,
-    pub found: usize,
-}
-
 // So many bytes were written.
 fn wrote(length: usize) -> MoorWritten
     ensures { λ r. ⌜ r ≡ record { number = 0; place = 0; length = length } ⌝ }
@@ -151,16 +95,6 @@ pub fn written_for_c(x: Written) -> MoorWritten
     match x {
         Written::Length(length) => wrote(length),
         Written::Refused(why) => refused_for_c(why),
-    }
-}
-
-pub fn response_for_c(x: Response) -> MoorWritten
-    ensures { λ r. ⌜ r ≡ responseForC x ⌝ }
-{
-    match x {
-        Response::Answered(length) => wrote(length),
-        Response::Silent => wrote(0),
-        Response::Refused(why) => refused_for_c(why),
     }
 }
 
@@ -212,110 +146,6 @@ pub fn judged_for_c(x: Judged) -> MoorJudged
             reply_attempts: 0,
             place: why.place,
             read: 0,
-        },
-    }
-}
-
-fn asked(request: u8) -> MoorRequestRead
-    ensures { λ r. ⌜ r ≡ record { number = 0; request = request; place = 0 } ⌝ }
-{
-    MoorRequestRead {
-        number: 0,
-        request,
-        place: 0,
-    }
-}
-
-pub fn request_for_c(x: RequestRead) -> MoorRequestRead
-    ensures { λ r. ⌜ r ≡ requestForC x ⌝ }
-{
-    match x {
-        RequestRead::Asked(request) => match request {
-            Request::Start => asked(START),
-            Request::Continue => asked(CONTINUE),
-        },
-        RequestRead::Refused(why) => MoorRequestRead {
-            number: why.number,
-            request: 0,
-            place: why.place,
-        },
-    }
-}
-
-pub fn answer_for_c(x: AnswerRead) -> MoorAnswerRead
-    ensures { λ r. ⌜ r ≡ answerForC x ⌝ }
-{
-    match x {
-        AnswerRead::Found { serial, address } => MoorAnswerRead {
-            number: 0,
-            answer: FOUND,
-            address,
-            serial,
-            place: 0,
-        },
-        AnswerRead::End => MoorAnswerRead {
-            number: 0,
-            answer: END,
-            address: 0,
-            serial: 0,
-            place: 0,
-        },
-        AnswerRead::Refused(why) => MoorAnswerRead {
-            number: why.number,
-            answer: 0,
-            address: 0,
-            serial: 0,
-            place: why.place,
-        },
-    }
-}
-
-pub fn decided_for_c(x: Decided) -> MoorDecided
-    ensures { λ r. ⌜ r ≡ decidedForC x ⌝ }
-{
-    MoorDecided {
-        key: x.key,
-        dominant: x.dominant,
-    }
-}
-
-fn scan_ended(end: u8, requests: usize, found: usize) -> MoorScanned
-    ensures { λ r. ⌜ r ≡ record { number = 0; end = end; place = 0; requests = requests; found = found } ⌝ }
-{
-    MoorScanned {
-        number: 0,
-        end,
-        place: 0,
-        requests,
-        found,
-    }
-}
-
-// One less, for the request that found no device.
-fn one_less(requests: usize) -> usize
-    ensures { λ r. ⌜ r ≡ requests - 1 ⌝ }
-{
-    if requests == 0 {
-        return 0;
-    }
-    requests - 1
-}
-
-// Every request of a scan found a device but for the one that ended it, so the answer tells how many
-// were heard.
-pub fn scanned_for_c(x: Scanned) -> MoorScanned
-    ensures { λ r. ⌜ r ≡ scannedForC x (foundBy x) ⌝ }
-{
-    match x {
-        Scanned::Complete(requests) => scan_ended(COMPLETE, requests, one_less(requests)),
-        Scanned::Nobody(requests) => scan_ended(NOBODY, requests, one_less(requests)),
-        Scanned::Unfinished(requests) => scan_ended(UNFINISHED, requests, requests),
-        Scanned::Refused(why) => MoorScanned {
-            number: why.number,
-            end: 0,
-            place: why.place,
-            requests: 0,
-            found: 0,
         },
     }
 }

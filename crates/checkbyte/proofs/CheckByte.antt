@@ -1,24 +1,25 @@
 -- What a byte does to the eBUS register, by any table that passes the test of crc/proofs/Table.antt, and one turn of the
 -- check's loop: the byte at i enters the register, escaped, and what is left starts at i + 1.
 -- Assumes nothing.
-use mathlib.Core.Path.{_≡_, sym, ap, ap₂, _∙_, subst}
-use mathlib.Core.List.{List, _∷_}
+use mathlib.Core.Path.{_≡_, refl, sym, ap, ap₂, _∙_, subst}
+use mathlib.Core.List.{List, [], _∷_}
 use mathlib.Core.Logic.{_⊎_, ⊎-elim}
-use Prim.Native.Nat.{ℕ, _+_, _-_, _*_, _≤_, _<_}
+use Prim.Native.Nat.{ℕ, zero, suc, _+_, _-_, _*_, _≤_, _<_}
 use native.Mathlib.Nat.{mod-one, div-one, mod-eq-of-lt}
 use native.Mathlib.Omega.{arith}
 use lib.Bits.{bitXor, xor-lt, xor-comm, xor-shifted}
 use lib.Dec.{lit<, lit≤}
-use lib.ListN.{length, getD, replicate, take, drop}
+use lib.ListN.{length, getD, replicate, take, drop, drop-of-length-le}
 use lib.Seq.{getD-take, getD-drop}
 use Rattle.crc.specs.Register.{left, steps, enter, bits}
 use Rattle.crc.proofs.Xor.{xor-assoc}
 use Rattle.crc.proofs.Register.{steps-xor, enter-spelled, bits-are-bits, spelled-bits}
 use Rattle.crc.proofs.Table.{IsTable, entry-lt, by-table}
+use Rattle.lists.proofs.Filling.{drop-next}
 use Rattle.escapes.specs.Escape.{esc, syn, expanded}
 use Rattle.escapes.proofs.Escaped.{expanded-plain, expanded-special}
 use Rattle.checkbyte.specs.Check.{ebusPolynomial, ebusBytes}
-use Rattle.checkbyte.specs.BitByBit.{ebusAll, EbusTables}
+use Rattle.checkbyte.specs.BitByBit.{ebusAll, EbusTables, checkFrom, checkBy}
 use Rattle.checkbyte.proofs.BitByBit.{ebus-table}
 
 module _ {table : List ℕ} (t : IsTable left 8 ebusPolynomial table) (r b : ℕ) (hr : r < 256) (hb : b < 256) where
@@ -132,3 +133,50 @@ module _ {tables : List ℕ} (t : EbusTables tables) where
         one-byte r a hr ha (b ∷ rest)
         ∙ one-byte (bitXor (getD tables r 0) a) b (one-lt r a hr ha) hb rest
         ∙ ap (λ (x : ℕ). ebusBytes x rest) (ap (λ (x : ℕ). bitXor x b) both ∙ xor-assoc (getD tables (256 + r) 0) (getD tables a 0) b)
+
+-- ---- raw bytes, in which escapes are expanded already, by any two tables
+
+-- one turn of a loop over them, and its end
+pub check-pair : (tables raw : List ℕ) (i r : ℕ) → i + 1 < length raw
+    → checkFrom tables r (drop i raw)
+    ≡ checkFrom tables (bitXor (getD tables (256 + r) 0) (bitXor (getD tables (getD raw i 0) 0) (getD raw (i + 1) 0))) (drop (i + 2) raw)
+unfolding checkFrom
+check-pair tables raw i r h =
+    let two : i + 1 + 1 ≡ i + 2 = omega arith in
+    ap (checkFrom tables r)
+    (drop-next raw i (omega arith) ∙ ap (λ (l : List ℕ). getD raw i 0 ∷ l) (drop-next raw (i + 1) h ∙ ap (λ (k : ℕ). getD raw (i + 1) 0 ∷ drop k raw) two))
+
+pub check-last : (tables raw : List ℕ) (i r : ℕ) → i < length raw → length raw ≤ i + 1
+    → checkFrom tables r (drop i raw) ≡ bitXor (getD tables r 0) (getD raw i 0)
+unfolding checkFrom
+check-last tables raw i r h none =
+    ap (checkFrom tables r) (drop-next raw i h ∙ ap (λ (l : List ℕ). getD raw i 0 ∷ l) (drop-of-length-le raw none))
+
+pub check-none : (tables raw : List ℕ) (i r : ℕ) → length raw ≤ i → checkFrom tables r (drop i raw) ≡ r
+unfolding checkFrom
+check-none tables raw i r h = ap (checkFrom tables r) (drop-of-length-le raw h)
+
+abbrev pub Bytes : List ℕ → Type 0
+Bytes raw = (i : ℕ) → getD raw i 0 < 256
+
+-- a part of bytes is bytes
+first-bytes : (raw : List ℕ) (n : ℕ) → Bytes raw → Bytes (take n raw)
+first-bytes raw zero each i = lit< tt
+first-bytes [] (suc n) each i = lit< tt
+first-bytes (b ∷ bs) (suc n) each zero = each 0
+first-bytes (b ∷ bs) (suc n) each (suc i) = first-bytes bs n (λ (k : ℕ). each (suc k)) i
+
+pub part-bytes : (raw : List ℕ) (from n : ℕ) → Bytes raw → Bytes (take n (drop from raw))
+part-bytes raw from n each = first-bytes (drop from raw) n (λ (i : ℕ). subst (λ (x : ℕ). x < 256) (sym (getD-drop from raw i 0)) (each (from + i)))
+
+-- by the eBUS tables it is the eBUS check
+by-register : {tables : List ℕ} → EbusTables tables → (raw : List ℕ) (r : ℕ) → r < 256 → Bytes raw → checkFrom tables r raw ≡ ebusBytes r raw
+unfolding checkFrom ebusBytes
+by-register t [] r hr each = refl
+by-register t (b ∷ []) r hr each = sym (one-byte t r b hr (each 0) [])
+by-register {tables} t (a ∷ b ∷ rest) r hr each =
+    by-register t rest (bitXor (getD tables (256 + r) 0) (bitXor (getD tables a 0) b)) (two-lt t r a b hr (each 0) (each 1)) (λ (i : ℕ). each (suc (suc i)))
+    ∙ sym (two-bytes t r a b hr (each 0) (each 1) rest)
+
+pub by-ebus-tables : {tables : List ℕ} → EbusTables tables → (raw : List ℕ) → Bytes raw → checkBy tables raw ≡ ebusBytes 0x00 raw
+by-ebus-tables t raw each = by-register t raw 0x00 (lit< tt) each

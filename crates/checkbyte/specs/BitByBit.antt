@@ -7,7 +7,7 @@ use Prim.Native.Nat.{ℕ, _+_, _-_, _*_, _<_}
 use mathlib.Core.List.{List, [], _∷_}
 use lib.Bits.{bitXor}
 use lib.Dec.{ltb}
-use lib.ListN.{replicate, take, drop}
+use lib.ListN.{getD, replicate, take, drop}
 use Rattle.lists.specs.Choice.{pick}
 use Rattle.crc.specs.Register.{bits}
 use Rattle.crc.specs.BitByBit.{TableOf}
@@ -46,3 +46,14 @@ EbusTwice table = TableOf (λ (k : ℕ). ebusAll k (replicate 16 0)) table
 pub record EbusTables (tables : List ℕ) : Type 0 where
   pub one : EbusTable (take 256 tables)
   pub two : EbusTwice (drop 256 tables)
+
+-- the check of raw bytes by any two tables: two bytes are added to the entry of the second that the running value picks, the
+-- first of them by its entry of the first
+unfoldable pub checkFrom : List ℕ → ℕ → List ℕ → ℕ
+checkFrom tables running [] = running
+checkFrom tables running (b ∷ []) = bitXor (getD tables running 0) b
+checkFrom tables running (a ∷ b ∷ rest) = checkFrom tables (bitXor (getD tables (256 + running) 0) (bitXor (getD tables a 0) b)) rest
+
+-- .. starting at 00; by the eBUS tables it is the check of Check.antt (proofs/CheckByte.antt)
+abbrev pub checkBy : List ℕ → List ℕ → ℕ
+checkBy tables raw = checkFrom tables 0x00 raw

@@ -17,7 +17,7 @@ ghost use Prim.Native.Nat.{_<_};
 ghost use lib.ListN.{length, getD};
 ghost use Rattle.escapes.specs.Escape.{esc, syn};
 ghost use Rattle.checkbyte.specs.Check.{ebusCheck};
-ghost use Rattle.checkbyte.specs.BitByBit.{EbusTable, EbusTables};
+ghost use Rattle.checkbyte.specs.BitByBit.{EbusTable, EbusTables, checkBy};
 
 // The table: at every entry, eight steps of the bit-by-bit rule.
 fn ebus_table() -> [u8; 256]
@@ -117,4 +117,25 @@ fn by_pairs(logical: &[u8]) -> u8
         }
     }
     (running - ABOVE) as u8
+}
+
+// The check of raw bytes, in which escapes are expanded already, two bytes a step by lent tables: by
+// those of `ebus_tables` it is the eBUS check. They are looked at as a slice, whose elements are known
+// to be bytes.
+pub fn wire_check(tables: &[u8; 512], raw: &[u8]) -> u8
+    ensures { λ r. ⌜ r ≡ checkBy (now (tables .entry)) (now (raw .entry)) ⌝ }
+{
+    let entries = &tables[..];
+    let mut running: usize = 0x100;
+    let mut i = 0;
+    while 1 < raw.len() - i {
+        let both = entries[raw[i] as usize] ^ raw[i + 1];
+        running = (entries[running] as usize) ^ (ABOVE + both as usize);
+        i += 2;
+    }
+    let at = running - ABOVE;
+    if i < raw.len() {
+        return entries[at] ^ raw[i];
+    }
+    at as u8
 }

@@ -13,6 +13,8 @@ use Rattle.escapes.specs.Escape.{expanded}
 use Rattle.escapes.specs.Logical.{logicalsAt}
 use Rattle.addresses.specs.Address.{kindOf}
 use Rattle.checkbyte.specs.Check.{ebusBytes}
+use Rattle.checkbyte.specs.BitByBit.{EbusTables, checkBy}
+use Rattle.checkbyte.proofs.CheckByte.{Bytes, part-bytes, by-ebus-tables}
 use Rattle.telegram.specs.declared.Extent.{Extent}
 use Rattle.telegram.specs.Telegram.{roomOf, destinationOf, lastOf, checkRight, read, telegramAt}
 use Rattle.telegram.specs.View.{extentOf}
@@ -107,13 +109,14 @@ module _ (command : Bool) (run : List ℕ) (at : ℕ) (t : Extent) (is : t ≡ e
   attempt-refused told = ap (onTelegram command run) (told-unread (telegramAt command run at) t is told)
 
 -- whether the check of a telegram that was read is right, by the raw bytes before its check byte
-pub check-by : (run : List ℕ) (start : ℕ) (t : Extent) → ReadFrom run start t → (b : Bool)
-    → eqb (ebusBytes 0x00 (take (t .last - start) (drop start run))) (t .value) ≡ b → checkRight (logicalsAt run (t .len) start) ≡ b
-check-by run start t r b e =
+pub check-by : {tables : List ℕ} → EbusTables tables → (run : List ℕ) (start : ℕ) (t : Extent) → Bytes run → ReadFrom run start t → (b : Bool)
+    → eqb (checkBy tables (take (t .last - start) (drop start run))) (t .value) ≡ b → checkRight (logicalsAt run (t .len) start) ≡ b
+check-by is-tables run start t each r b e =
     let s = logicalsAt run (t .len) start in
     let raw = take (t .last - start) (drop start run) in
     right-on-wire run start s (t .last) (checked (r .command) run start s (t .last) (t .next) (r .is))
     ∙ ap (λ (k : ℕ). eqb (ebusBytes 0x00 raw) k) (r .final)
+    ∙ ap (λ (k : ℕ). eqb k (t .value)) (sym (by-ebus-tables is-tables raw (part-bytes run start (t .last - start) each)))
     ∙ e
 
 -- ---- behind the attempts at a command: the exchange goes on by DST of the one that was accepted

@@ -2,9 +2,9 @@
 //
 // A refusal is returned as soon as it is met. Nothing is stored: an attempt says where it ends, and
 // its bytes are taken from the run once the exchange is accepted.
-use crate::wire::wire_check;
 use addresses::ExchangeKind;
 use addresses::kind;
+use checkbyte::wire_check;
 use escapes::SYN;
 use refusal::BUS_ERROR;
 use refusal::CHECK_WRONG;

@@ -1,23 +1,24 @@
 // The scan frames of Fast Modbus for C.
-use boundary::CONTINUE;
-use boundary::MoorAnswerRead;
-use boundary::MoorRequestRead;
 use boundary::MoorWritten;
-use boundary::START;
-use boundary::answer_for_c;
 use boundary::refused_for_c;
-use boundary::request_for_c;
 use boundary::written_for_c;
 use refusal::Refusal;
 use refusal::SUBCOMMAND_WRONG;
 use requests::Request;
+use scanboundary::CONTINUE;
+use scanboundary::MoorAnswerRead;
+use scanboundary::MoorRequestRead;
+use scanboundary::START;
+use scanboundary::answer_for_c;
+use scanboundary::request_for_c;
 ghost use mathlib.Core.Path.{_≡_};
 ghost use lib.ListN.{length};
 ghost use Rattle.refusal.specs.Output.{Wrote};
 ghost use Rattle.requests.specs.Reading.{readRequest};
 ghost use Rattle.answers.specs.Reading.{readAnswer};
 ghost use Rattle.answers.specs.Writing.{writeFound, writeEnd};
-ghost use Rattle.boundary.specs.ForC.{requestForC, answerForC, writtenForC};
+ghost use Rattle.boundary.specs.ForC.{writtenForC};
+ghost use Rattle.scanboundary.specs.ForC.{requestForC, answerForC};
 ghost use Rattle.framecalls.specs.RequestNumber.{requestOutput};
 
 // What a request frame asks. It must fill the whole input; nothing is passed over.

@@ -15,7 +15,7 @@ use Rattle.turns.specs.declared.Answer.{Answer}
 use Rattle.turns.specs.declared.Answer.the-variants.{Silence, Found, End}
 use Rattle.guard.specs.declared.Guard.{Guard}
 use Rattle.guard.specs.declared.Guard.the-variants.{Passed, Refused}
-use Rattle.boundary.specs.ForC.{foundBy}
+use Rattle.scanboundary.specs.ForC.{foundBy}
 
 -- of turns behind j others that found a device each
 abbrev Told : ℕ → List Turn → Type 0

@@ -1,16 +1,16 @@
 // The devices' side of a Fast Modbus scan for C.
-use boundary::MoorDecided;
-use boundary::MoorScanned;
 use boundary::MoorWritten;
-use boundary::decided_for_c;
-use boundary::response_for_c;
-use boundary::scanned_for_c;
+use scanboundary::MoorDecided;
+use scanboundary::MoorScanned;
+use scanboundary::decided_for_c;
+use scanboundary::response_for_c;
+use scanboundary::scanned_for_c;
 ghost use mathlib.Core.Path.{_≡_};
 ghost use Rattle.arbitration.specs.Contest.{decided};
 ghost use Rattle.table.specs.Table.{columns, valid};
 ghost use Rattle.devices.specs.Calls.{Gives, startCall, continueCall, offerCall};
 ghost use Rattle.devices.specs.WholeScan.{GivesScan, scanCall};
-ghost use Rattle.boundary.specs.ForC.{decidedForC, responseForC, scannedForC};
+ghost use Rattle.scanboundary.specs.ForC.{decidedForC, responseForC, scannedForC};
 
 // A key of a scan has a window for each of its bits.
 const WINDOWS: u32 = 32;

@@ -31,7 +31,7 @@ pub fn modbus_check(bytes: &[u8]) -> u16 {
 /// One raw byte into the eBUS check. The byte enters at the low end while the
 /// remainder so far moves up eight places: "with no eight zero bits added".
 #[inline]
-fn ebus_step(check: u8, raw: u8) -> u8 {
+pub(crate) fn ebus_step(check: u8, raw: u8) -> u8 {
     EBUS_TABLE[usize::from(check)] ^ raw
 }
 

@@ -7,8 +7,10 @@ use crate::refusal::{
     SYN_EARLY,
 };
 
-const ACK: u8 = 0x00;
-const NACK: u8 = 0xFF;
+pub(crate) const ACK: u8 = 0x00;
+pub(crate) const NACK: u8 = 0xFF;
+/// So many bytes of a recording are read at most, as if it ended there.
+pub(crate) const MOST_READ: usize = 1 << 31;
 
 /// A judged exchange: its kind, the attempts at command and reply (0 without a
 /// reply), and the raw bytes read, SYN included.
@@ -29,17 +31,28 @@ pub struct Part {
     pub length: usize,
 }
 
-/// Judges a recorded run from its start. The buffers are written only when the
-/// exchange is accepted.
+/// Judges a recorded run from its start. At most 2^31 bytes are read. The
+/// buffers are written only when the exchange is accepted.
 pub fn judge(
     run: &[u8],
     command: &mut [u8],
     reply_1: &mut [u8],
     reply_2: &mut [u8],
 ) -> Result<Judged, Refusal> {
-    if command.len() < MOST_COMMAND || reply_1.len() < MOST_REPLY || reply_2.len() < MOST_REPLY {
-        return Err(Refusal::whole(OUTPUT_SHORT));
-    }
+    judge_first(MOST_READ, run, command, reply_1, reply_2)
+}
+
+/// Judges the first `most` bytes of a run. Any other number than [`MOST_READ`]
+/// is for tests, since no exchange is that long.
+pub(crate) fn judge_first(
+    most: usize,
+    run: &[u8],
+    command: &mut [u8],
+    reply_1: &mut [u8],
+    reply_2: &mut [u8],
+) -> Result<Judged, Refusal> {
+    enough_room(command, reply_1, reply_2)?;
+    let run = &run[..run.len().min(most)];
     let mut accepted = Telegram::EMPTY;
     let (command_attempts, mut at) = read_command(run, &mut accepted)?;
     let kind = kind(accepted.bytes[1]);
@@ -58,6 +71,14 @@ pub fn judge(
         reply_attempts,
         read,
     })
+}
+
+/// The buffers are looked at before anything else.
+pub(crate) fn enough_room(command: &[u8], reply_1: &[u8], reply_2: &[u8]) -> Result<(), Refusal> {
+    if command.len() < MOST_COMMAND || reply_1.len() < MOST_REPLY || reply_2.len() < MOST_REPLY {
+        return Err(Refusal::whole(OUTPUT_SHORT));
+    }
+    Ok(())
 }
 
 /// Where the data of the reply attempt asked for stands. Where there is none it

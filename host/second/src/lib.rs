@@ -1,7 +1,9 @@
-//! The rules of document 01 written a second time, in plain Rust, from the
-//! paper, and from `moortinker.h` where the paper has no say. The archive is held against this crate, input by input, and is
-//! measured beside it. There is one function here for each function of
-//! `moortinker.h`, over slices, with `Result<_, Refusal>` for the answer.
+//! The rules written a second time, in plain Rust, from the papers, and from
+//! `moortinker.h` where they have no say. The archive is held against this
+//! crate, input by input, and is measured beside it. There is one function here
+//! for each function of `moortinker.h`, over slices, with `Result<_, Refusal>`
+//! for the answer. A [`Listener`] judges an exchange whose bytes arrive one by
+//! one.
 
 #![forbid(unsafe_code)]
 
@@ -10,6 +12,8 @@ pub mod devices;
 pub mod ebus;
 pub mod exchange;
 pub mod frames;
+pub mod listener;
 pub mod refusal;
 
+pub use listener::Listener;
 pub use refusal::Refusal;

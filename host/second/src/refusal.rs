@@ -1,4 +1,4 @@
-//! What a call gives when it refuses: a number of document 01's table and a
+//! What a call gives when it refuses: a number of the rules' table and a
 //! place, the offset of the raw byte that is named, 0 where none is.
 
 pub const OUTPUT_SHORT: u8 = 1;

@@ -1,4 +1,4 @@
-//! The rows W1 to W14 of document 01, run, and the frames that document 000
+//! The rows W1 to W14 of the rules, run, and the frames that document 000
 //! prints.
 
 use second::checks::{ebus_check, modbus_check};

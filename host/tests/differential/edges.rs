@@ -1,4 +1,4 @@
-//! Inputs that are named one by one: the rows and edges of document 01, one at
+//! Inputs that are named one by one: the rows and edges of the rules, one at
 //! least for every number that a function may give, and whole neighbourhoods of
 //! a few good inputs.
 

@@ -14,7 +14,7 @@ const SEED: u64 = 0x000E_B052_0017;
 const INPUTS: u64 = 6_000_000;
 
 /// Declares the functions of the C interface, each with the numbers that
-/// document 01 and the header let it give.
+/// the rules and the header let it give.
 macro_rules! functions {
     ($($function:ident $name:literal [$($number:literal)*])*) => {
         #[derive(Clone, Copy, Debug, PartialEq, Eq, PartialOrd, Ord)]

@@ -1,7 +1,7 @@
 -- `framecalls::moor_read_answer` meets its contract: what the reader gives, as numbers.
 -- Assumes nothing.
 use mathlib.Core.Path.{ap, _∙_}
-use Rattle.boundary.specs.ForC.{answerForC}
+use Rattle.scanboundary.specs.ForC.{answerForC}
 use borrow.Author.Needs.{needs}
 use Rattle.framecalls.proofs.moor_read_answer.Statement.{statement}
 use Rattle.framecalls.proofs.moor_read_answer.Tie as tie

@@ -1,7 +1,7 @@
 -- `framecalls::moor_read_request` meets its contract: what the reader gives, as numbers.
 -- Assumes nothing.
 use mathlib.Core.Path.{ap, _∙_}
-use Rattle.boundary.specs.ForC.{requestForC}
+use Rattle.scanboundary.specs.ForC.{requestForC}
 use borrow.Author.Needs.{needs}
 use Rattle.framecalls.proofs.moor_read_request.Statement.{statement}
 use Rattle.framecalls.proofs.moor_read_request.Tie as tie

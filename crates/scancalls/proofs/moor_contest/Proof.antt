@@ -1,7 +1,7 @@
 -- `scancalls::moor_contest` meets its contract: what the contest decides, as numbers.
 -- Assumes nothing.
 use mathlib.Core.Path.{ap, _∙_}
-use Rattle.boundary.specs.ForC.{decidedForC}
+use Rattle.scanboundary.specs.ForC.{decidedForC}
 use borrow.Author.Needs.{needs}
 use Rattle.scancalls.proofs.moor_contest.Statement.{statement}
 use Rattle.scancalls.proofs.moor_contest.Tie as tie

@@ -1,6 +1,6 @@
 -- `scancalls::moor_resume` meets its contract: what the devices give, as numbers.
 -- Assumes nothing.
-use Rattle.boundary.specs.ForC.{responseForC}
+use Rattle.scanboundary.specs.ForC.{responseForC}
 use Rattle.devices.proofs.CallCases.{gives-shown}
 use borrow.Author.Needs.{needs}
 use Rattle.scancalls.proofs.moor_resume.Statement.{statement}

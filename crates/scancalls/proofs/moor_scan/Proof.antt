@@ -2,7 +2,7 @@
 -- Assumes nothing.
 use mathlib.Core.Path.{_≡_, ap, _∙_}
 use lib.ListN.{length}
-use Rattle.boundary.specs.ForC.{scannedForC, foundBy}
+use Rattle.scanboundary.specs.ForC.{scannedForC, foundBy}
 use Rattle.scancalls.proofs.Heard.{heard}
 use Rattle.devices.specs.WholeScan.{scanCall, serialsHeard}
 use Rattle.devices.proofs.CallCases.{scans-shown}

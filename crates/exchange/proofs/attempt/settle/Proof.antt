@@ -3,6 +3,7 @@
 use mathlib.Core.Path.{sym, ap, _∙_, subst}
 use mathlib.Core.Bool.{true, false}
 use Prim.Native.Nat.{ℕ}
+use native.Mathlib.Omega.{arith}
 use lib.Dec.{eqb}
 use borrow.Author.Tests.{eq-eqb, ne-eqb}
 use Rattle.exchange.specs.Exchange.{settled}
@@ -32,7 +33,7 @@ returns : tie.Need-returns
 unfolding settled
 returns c =
     let t = c .before .before .before .before .before .before .args .t in (
-      simp (check-by (c .before .before .before .before .before .before .args .run .now) (c .before .before .before .before .before .before .args .start) t (c .before .before .before .before .before .before .pre .1) true (sym (ap (λ (k : ℕ). eqb k (t .value)) (c .before .before .before .wire-check .ensures)) ∙ eq-eqb _ _ (c .before .if1 .taken)))
+      simp (check-by (c .before .before .before .before .before .before .pre .0) (c .before .before .before .before .before .before .args .run .now) (c .before .before .before .before .before .before .args .start) t (λ (i : ℕ). omega (arith, c .before .before .before .before .before .shared-slice-known .given i)) (c .before .before .before .before .before .before .pre .1) true (sym (ap (λ (k : ℕ). eqb k (t .value)) (c .before .before .before .wire-check .ensures)) ∙ eq-eqb _ _ (c .before .if1 .taken)))
           (ap (λ (a : AttemptStruct). attemptOf a (c .before .before .before .before .before .before .args .run .now) (c .before .before .before .before .before .before .args .start)) (c .attempt-ended .ensures)),
       λ command ready. subst (Ready command (c .before .before .before .before .before .before .args .run .now) (c .before .before .before .before .before .before .args .start)) (sym (ap (λ (a : AttemptStruct). a .len) (c .attempt-ended .ensures))) ready,
     )
@@ -44,7 +45,7 @@ returns-2 : tie.Need-returns-2
 unfolding settled
 returns-2 c =
     let t = c .before .before .before .before .before .before .args .t in (
-      simp (check-by (c .before .before .before .before .before .before .args .run .now) (c .before .before .before .before .before .before .args .start) t (c .before .before .before .before .before .before .pre .1) false (sym (ap (λ (k : ℕ). eqb k (t .value)) (c .before .before .before .wire-check .ensures)) ∙ ne-eqb _ _ (c .before .if1 .left)))
+      simp (check-by (c .before .before .before .before .before .before .pre .0) (c .before .before .before .before .before .before .args .run .now) (c .before .before .before .before .before .before .args .start) t (λ (i : ℕ). omega (arith, c .before .before .before .before .before .shared-slice-known .given i)) (c .before .before .before .before .before .before .pre .1) false (sym (ap (λ (k : ℕ). eqb k (t .value)) (c .before .before .before .wire-check .ensures)) ∙ ne-eqb _ _ (c .before .if1 .left)))
           (ap (λ (a : AttemptStruct). attemptOf a (c .before .before .before .before .before .before .args .run .now) (c .before .before .before .before .before .before .args .start)) (c .attempt-failed .ensures)),
       λ command _. ready-zero command _ _ _ (ap (λ (a : AttemptStruct). a .len) (c .attempt-failed .ensures)),
     )

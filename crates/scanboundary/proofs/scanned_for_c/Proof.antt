@@ -1,13 +1,13 @@
--- `boundary::scanned_for_c` meets its contract: each end of a scan is its numbers, and tells how many devices were heard.
+-- `scanboundary::scanned_for_c` meets its contract: each end of a scan is its numbers, and tells how many devices were heard.
 -- Assumes nothing.
-use Rattle.boundary.specs.declared.MoorScanned.{MoorScanned}
+use Rattle.scanboundary.specs.declared.MoorScanned.{MoorScanned}
 use mathlib.Core.Path.{sym, ap, _∙_}
-use Rattle.boundary.specs.ForC.{scannedForC, foundBy}
+use Rattle.scanboundary.specs.ForC.{scannedForC, foundBy}
 use Rattle.devices.specs.declared.Scanned.{Scanned}
 use Rattle.devices.specs.declared.Scanned.the-variants.{Complete, Nobody}
 use borrow.Author.Needs.{needs}
-use Rattle.boundary.proofs.scanned_for_c.Statement.{statement}
-use Rattle.boundary.proofs.scanned_for_c.Tie as tie
+use Rattle.scanboundary.proofs.scanned_for_c.Statement.{statement}
+use Rattle.scanboundary.proofs.scanned_for_c.Tie as tie
 
 abbrev answered : Scanned → MoorScanned
 answered x = scannedForC x (foundBy x)

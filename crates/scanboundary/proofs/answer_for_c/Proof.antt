@@ -1,10 +1,10 @@
--- `boundary::answer_for_c` meets its contract: each case of what the answer reader finds is its numbers.
+-- `scanboundary::answer_for_c` meets its contract: each case of what the answer reader finds is its numbers.
 -- Assumes nothing.
 use mathlib.Core.Path.{sym, ap}
-use Rattle.boundary.specs.ForC.{answerForC}
+use Rattle.scanboundary.specs.ForC.{answerForC}
 use borrow.Author.Needs.{needs}
-use Rattle.boundary.proofs.answer_for_c.Statement.{statement}
-use Rattle.boundary.proofs.answer_for_c.Tie as tie
+use Rattle.scanboundary.proofs.answer_for_c.Statement.{statement}
+use Rattle.scanboundary.proofs.answer_for_c.Tie as tie
 
 enum-known-x : tie.Need-enum-known-x
 enum-known-x c = search needs

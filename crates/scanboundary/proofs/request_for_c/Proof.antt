@@ -1,12 +1,12 @@
--- `boundary::request_for_c` meets its contract: each request, or why there is none, is its numbers.
+-- `scanboundary::request_for_c` meets its contract: each request, or why there is none, is its numbers.
 -- Assumes nothing.
 use mathlib.Core.Path.{sym, ap, _∙_}
-use Rattle.boundary.specs.ForC.{requestForC}
+use Rattle.scanboundary.specs.ForC.{requestForC}
 use Rattle.requests.specs.declared.Request.{Request}
 use Rattle.requests.specs.declared.RequestRead.the-variants.{Asked}
 use borrow.Author.Needs.{needs}
-use Rattle.boundary.proofs.request_for_c.Statement.{statement}
-use Rattle.boundary.proofs.request_for_c.Tie as tie
+use Rattle.scanboundary.proofs.request_for_c.Statement.{statement}
+use Rattle.scanboundary.proofs.request_for_c.Tie as tie
 
 enum-known-x : tie.Need-enum-known-x
 enum-known-x c = search needs

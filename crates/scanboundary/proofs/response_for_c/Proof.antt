@@ -1,22 +1,22 @@
--- `boundary::response_for_c` meets its contract: each case of the devices' answer is its numbers.
+-- `scanboundary::response_for_c` meets its contract: each case of the devices' answer is its numbers.
 -- Assumes nothing.
 use mathlib.Core.Path.{sym, ap, _∙_}
-use Rattle.boundary.specs.ForC.{responseForC}
+use Rattle.scanboundary.specs.ForC.{responseForC}
 use borrow.Author.Needs.{needs}
-use Rattle.boundary.proofs.response_for_c.Statement.{statement}
-use Rattle.boundary.proofs.response_for_c.Tie as tie
+use Rattle.scanboundary.proofs.response_for_c.Statement.{statement}
+use Rattle.scanboundary.proofs.response_for_c.Tie as tie
 
 enum-known-x : tie.Need-enum-known-x
 enum-known-x c = search needs
 
-wrote-requires : tie.Need-wrote-requires
-wrote-requires c κs = search needs
+written-for-c-requires : tie.Need-written-for-c-requires
+written-for-c-requires c κs = search needs
 
 enum-told : tie.Need-enum-told
 enum-told c = search needs
 
-wrote-requires-2 : tie.Need-wrote-requires-2
-wrote-requires-2 c κs = search needs
+written-for-c-requires-2 : tie.Need-written-for-c-requires-2
+written-for-c-requires-2 c κs = search needs
 
 enum-known-x-2 : tie.Need-enum-known-x-2
 enum-known-x-2 c = search needs
@@ -25,10 +25,10 @@ refused-for-c-requires : tie.Need-refused-for-c-requires
 refused-for-c-requires c κs = search needs
 
 returns : tie.Need-returns
-returns c = c .wrote .ensures ∙ ap responseForC (sym (c .before .before .x .given .1))
+returns c = c .written-for-c .ensures ∙ ap responseForC (sym (c .before .before .x .given .1))
 
 returns-2 : tie.Need-returns-2
-returns-2 c = c .wrote2 .ensures ∙ ap responseForC (sym (c .before .enum-told .given .1))
+returns-2 c = c .written-for-c2 .ensures ∙ ap responseForC (sym (c .before .enum-told .given .1))
 
 returns-3 : tie.Need-returns-3
 returns-3 c = c .refused-for-c .ensures ∙ ap responseForC (sym (c .before .before .x2 .given .1))
@@ -38,9 +38,9 @@ response-for-c-spec =
     tie.close
     (tie.spec
     enum-known-x
-    wrote-requires
+    written-for-c-requires
     enum-told
-    wrote-requires-2
+    written-for-c-requires-2
     enum-known-x-2
     refused-for-c-requires
     returns
