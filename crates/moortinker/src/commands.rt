@@ -15,12 +15,12 @@ use crate::modbus_commands;
 use crate::number::NumberRead;
 use crate::number::last_number;
 use crate::part::start_of;
-use crate::say;
 use crate::say::Page;
+use crate::texts;
 use crate::word;
 
 // What a line is answered. An empty line and a comment are answered nothing.
-pub(crate) fn answer(line: &[u8], d: Desk, page: &mut Page) -> Desk {
+pub(crate) fn answer(line: &[u8], d: Desk) -> Desk {
     let w = word::next(line, 0);
     let from = w.from;
     let at = w.to;
@@ -31,12 +31,12 @@ pub(crate) fn answer(line: &[u8], d: Desk, page: &mut Page) -> Desk {
     if name[0] == b'#' {
         return d;
     }
-    by_name(name, line, at, d, page)
+    by_name(name, line, at, d)
 }
 
 // The names of the commands on the bytes that the rest of the line is, of those that take no word,
 // and of those with words of their own. A command's number is the place of its name in this list.
-fn by_name(name: &[u8], line: &[u8], at: usize, d: Desk, page: &mut Page) -> Desk {
+fn by_name(name: &[u8], line: &[u8], at: usize, d: Desk) -> Desk {
     let command = word::place(
         b"ebus-check expand undo judge write-reply modbus-check read-request read-answer
 write-end forget table start continue help
@@ -44,92 +44,92 @@ kind write-command write-request write-found device offer scan room",
         name,
     );
     if command < 8 {
-        return on_bytes(command, line, at, d, page);
+        return on_bytes(command, line, at, d);
     }
     if command < 14 {
-        return alone(command, line, at, d, page);
+        return alone(command, line, at, d);
     }
-    with_words(command, line, at, d, page)
+    with_words(command, line, at, d)
 }
 
-fn on_bytes(command: usize, line: &[u8], at: usize, d: Desk, page: &mut Page) -> Desk {
+fn on_bytes(command: usize, line: &[u8], at: usize, d: Desk) -> Desk {
     let mut store = [0u8; hex::MOST];
     let read = hex::bytes(line, at, &mut store);
     match read {
         BytesRead::Bytes(n) => {
             let input = start_of(&store, n);
-            d.with_used(with_bytes(command, input, d.room, page, d.used))
+            d.with_page(with_bytes(command, input, d.room, d.page))
         }
-        BytesRead::Wrong(why) => d.wrong(page, why),
+        BytesRead::Wrong(why) => d.wrong(why),
     }
 }
 
-fn with_bytes(command: usize, input: &[u8], room: usize, page: &mut Page, used: usize) -> usize {
+fn with_bytes(command: usize, input: &[u8], room: usize, page: Page) -> Page {
     match command {
-        0 => ebus_commands::check(input, page, used),
-        1 => ebus_commands::expand(input, room, page, used),
-        2 => ebus_commands::undo(input, room, page, used),
-        3 => ebus_commands::judge(input, room, page, used),
-        4 => ebus_commands::write_reply(input, room, page, used),
-        5 => modbus_commands::check(input, page, used),
-        6 => modbus_commands::read_request(input, page, used),
-        _ => modbus_commands::read_answer(input, page, used),
+        0 => ebus_commands::check(input, page),
+        1 => ebus_commands::expand(input, room, page),
+        2 => ebus_commands::undo(input, room, page),
+        3 => ebus_commands::judge(input, room, page),
+        4 => ebus_commands::write_reply(input, room, page),
+        5 => modbus_commands::check(input, page),
+        6 => modbus_commands::read_request(input, page),
+        _ => modbus_commands::read_answer(input, page),
     }
 }
 
-fn alone(command: usize, line: &[u8], at: usize, d: Desk, page: &mut Page) -> Desk {
+fn alone(command: usize, line: &[u8], at: usize, d: Desk) -> Desk {
     if word::more(line, at) {
-        return extra(line, at, d, page);
+        return extra(line, at, d);
     }
     match command {
-        8 => d.with_used(modbus_commands::write_end(d.room, page, d.used)),
-        9 => ok(d.with_table(no_rows()), page),
-        10 => device_commands::show(d, page),
-        11 => device_commands::request(Asked::Start, d, page),
-        12 => device_commands::request(Asked::Continue, d, page),
-        _ => d.with_used(help::commands(page, d.used)),
+        8 => d.with_page(modbus_commands::write_end(d.room, d.page)),
+        9 => ok(d.with_table(no_rows())),
+        10 => device_commands::show(d),
+        11 => device_commands::request(Asked::Start, d),
+        12 => device_commands::request(Asked::Continue, d),
+        _ => d.with_page(help::commands(d.page)),
     }
 }
 
-fn with_words(command: usize, line: &[u8], at: usize, d: Desk, page: &mut Page) -> Desk {
+fn with_words(command: usize, line: &[u8], at: usize, d: Desk) -> Desk {
     match command {
-        14 => ebus_commands::kind(line, at, d, page),
-        15 => ebus_commands::write_command(line, at, d, page),
-        16 => modbus_commands::write_request(line, at, d, page),
-        17 => modbus_commands::write_found(line, at, d, page),
-        18 => device_commands::device(line, at, d, page),
-        19 => device_commands::offer(line, at, d, page),
-        20 => device_commands::scan(line, at, d, page),
-        21 => room(line, at, d, page),
-        _ => unknown(line, d, page),
+        14 => ebus_commands::kind(line, at, d),
+        15 => ebus_commands::write_command(line, at, d),
+        16 => modbus_commands::write_request(line, at, d),
+        17 => modbus_commands::write_found(line, at, d),
+        18 => device_commands::device(line, at, d),
+        19 => device_commands::offer(line, at, d),
+        20 => device_commands::scan(line, at, d),
+        21 => room(line, at, d),
+        _ => unknown(line, d),
     }
 }
 
 // The line's first word is no command.
-fn unknown(line: &[u8], d: Desk, page: &mut Page) -> Desk {
+fn unknown(line: &[u8], d: Desk) -> Desk {
     let w = word::next(line, 0);
-    d.wrong_at(page, UNKNOWN_COMMAND, w.from)
+    d.wrong_at(UNKNOWN_COMMAND, w.from)
 }
 
 // A word stands behind what the command takes.
-pub(crate) fn extra(line: &[u8], at: usize, d: Desk, page: &mut Page) -> Desk {
+pub(crate) fn extra(line: &[u8], at: usize, d: Desk) -> Desk {
     let w = word::next(line, at);
-    d.wrong_at(page, EXTRA, w.from)
+    d.wrong_at(EXTRA, w.from)
 }
 
 // The command is obeyed, and has nothing else to say.
-pub(crate) fn ok(d: Desk, page: &mut Page) -> Desk {
-    d.with_used(say::text(page, d.used, b"ok\n"))
+pub(crate) fn ok(d: Desk) -> Desk {
+    d.with_page(texts::plain(d.page, texts::OK))
 }
 
 // `room` alone is the full size again; with a number each lent output has that many bytes.
-fn room(line: &[u8], at: usize, d: Desk, page: &mut Page) -> Desk {
+fn room(line: &[u8], at: usize, d: Desk) -> Desk {
     if !word::more(line, at) {
-        return ok(d.with_room(FULL), page);
+        return ok(d.with_room(FULL));
     }
     let read = last_number(line, at, MOST_ROOM as u64);
     match read {
-        NumberRead::Wrong(why) => d.wrong(page, why),
-        NumberRead::Number(n, _) => ok(d.with_room(n as usize), page),
+        NumberRead::Wrong(why) => d.wrong(why),
+        NumberRead::Number(n, _) => ok(d.with_room(n as usize)),
     }
 }

@@ -1,6 +1,7 @@
 // What the tool keeps from line to line, and what a command leaves: the desk after it.
 use crate::fault;
 use crate::fault::Fault;
+use crate::say;
 use crate::say::Page;
 
 // Every output has room for what a line of 8,192 bytes expands to.
@@ -25,10 +26,10 @@ pub(crate) struct Table {
 
 pub(crate) struct Desk {
     pub(crate) table: Table,
+    // What was answered and is not written out yet.
+    pub(crate) page: Page,
     // How many bytes, or entries of a list, each lent output has.
     pub(crate) room: usize,
-    // How many bytes of the page wait to be written out.
-    pub(crate) used: usize,
     // The number of the line that is obeyed, from 1 on.
     pub(crate) line: u64,
 }
@@ -56,19 +57,23 @@ impl Table {
 }
 
 pub(crate) fn new() -> Desk {
-    let table = no_rows();
     Desk {
-        table,
+        table: no_rows(),
+        page: say::empty(),
         room: FULL,
-        used: 0,
         line: 1,
     }
 }
 
 impl Desk {
-    pub(crate) fn with_used(mut self, used: usize) -> Desk {
-        self.used = used;
-        self
+    pub(crate) fn with_page(self, page: Page) -> Desk {
+        let table = self.table;
+        Desk {
+            table,
+            page,
+            room: self.room,
+            line: self.line,
+        }
     }
 
     pub(crate) fn with_room(mut self, room: usize) -> Desk {
@@ -77,12 +82,18 @@ impl Desk {
     }
 
     pub(crate) fn with_table(self, table: Table) -> Desk {
+        let page = self.page;
         Desk {
             table,
+            page,
             room: self.room,
-            used: self.used,
             line: self.line,
         }
+    }
+
+    // What waits on the page is written out.
+    pub(crate) fn written_out(self) -> Desk {
+        self.with_page(say::flush(self.page))
     }
 
     // The line is done.
@@ -92,12 +103,12 @@ impl Desk {
     }
 
     // Says what was wrong with the line.
-    pub(crate) fn wrong(self, page: &mut Page, why: Fault) -> Desk {
-        self.with_used(fault::say_fault(why, self.line, page, self.used))
+    pub(crate) fn wrong(self, why: Fault) -> Desk {
+        self.with_page(fault::say_fault(self.page, why, self.line))
     }
 
     // Says what was wrong at this place of the line.
-    pub(crate) fn wrong_at(self, page: &mut Page, what: u8, at: usize) -> Desk {
-        self.wrong(page, fault::fault_at(what, at))
+    pub(crate) fn wrong_at(self, what: u8, at: usize) -> Desk {
+        self.wrong(fault::fault_at(what, at))
     }
 }

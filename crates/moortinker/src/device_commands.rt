@@ -21,6 +21,10 @@ use crate::part::serials_of;
 use crate::part::start_of;
 use crate::say;
 use crate::say::Page;
+use crate::say::one;
+use crate::say::three;
+use crate::say::two;
+use crate::texts;
 use devices::Response;
 use devices::Scanned;
 
@@ -55,10 +59,10 @@ fn read_row(line: &[u8], at: usize) -> RowRead {
     }
 }
 
-pub(crate) fn device(line: &[u8], at: usize, d: Desk, page: &mut Page) -> Desk {
+pub(crate) fn device(line: &[u8], at: usize, d: Desk) -> Desk {
     let read = read_row(line, at);
     match read {
-        RowRead::Wrong(why) => d.wrong(page, why),
+        RowRead::Wrong(why) => d.wrong(why),
         RowRead::Row {
             serial,
             address,
@@ -67,7 +71,7 @@ pub(crate) fn device(line: &[u8], at: usize, d: Desk, page: &mut Page) -> Desk {
             let table = d.table;
             let row = table.rows;
             if MOST_ROWS <= row {
-                return d.wrong_at(page, TABLE_FULL, at);
+                return d.wrong_at(TABLE_FULL, at);
             }
             let mut serials = table.serials;
             let mut addresses = table.addresses;
@@ -81,12 +85,12 @@ pub(crate) fn device(line: &[u8], at: usize, d: Desk, page: &mut Page) -> Desk {
                 addresses,
                 marks,
             };
-            ok(d.with_table(longer), page)
+            ok(d.with_table(longer))
         }
     }
 }
 
-pub(crate) fn show(d: Desk, page: &mut Page) -> Desk {
+pub(crate) fn show(d: Desk) -> Desk {
     let table = d.table;
     let rows = table.rows;
     let serials = table.serials;
@@ -95,64 +99,57 @@ pub(crate) fn show(d: Desk, page: &mut Page) -> Desk {
     let s = serials_of(&serials, rows);
     let a = start_of(&addresses, rows);
     let m = start_of(&marks, rows);
-    let head = say_valid(rows, table::valid(s, a, m), page, d.used);
-    d.with_used(say_rows(rows, s, a, m, page, head))
+    let head = valid_text(table::valid(s, a, m));
+    let page = texts::text(d.page, head, one(rows as u64));
+    d.with_page(say_rows(rows, s, a, m, page))
 }
 
-fn say_valid(rows: usize, valid: bool, page: &mut Page, used: usize) -> usize {
+fn valid_text(valid: bool) -> u8 {
     if valid {
-        return say::filled(page, used, b"# devices, valid\n", &[rows as u64]);
+        texts::VALID
+    } else {
+        texts::NOT_VALID
     }
-    say::filled(page, used, b"# devices, not valid\n", &[rows as u64])
 }
 
 // The first n rows.
-fn say_rows(
+fn say_rows<'a>(
     n: usize,
-    serials: &[u32],
-    addresses: &[u8],
-    marks: &[u8],
-    page: &mut Page,
-    used: usize,
-) -> usize {
-    let mut at = used;
+    serials: &'a [u32],
+    addresses: &'a [u8],
+    marks: &'a [u8],
+    page: Page,
+) -> Page {
+    let mut p = page;
     let mut i = 0;
     while i < n {
-        at = say_row(i, serials, addresses, marks, page, at);
+        p = say_row(i, serials, addresses, marks, p);
         i += 1;
     }
-    at
+    p
 }
 
 // A row of the table has a mark. A device that a scan found has none.
-fn say_row(
-    i: usize,
-    serials: &[u32],
-    addresses: &[u8],
-    marks: &[u8],
-    page: &mut Page,
-    used: usize,
-) -> usize {
+fn say_row(i: usize, serials: &[u32], addresses: &[u8], marks: &[u8], page: Page) -> Page {
     if serials.len() <= i {
-        return used;
+        return page;
     }
     if addresses.len() <= i {
-        return used;
+        return page;
     }
     if marks.len() <= i {
-        return say_found(serials[i], addresses[i], page, used);
+        return say_found(serials[i], addresses[i], page);
     }
-    say_marked(serials[i], addresses[i], marks[i], page, used)
+    say_marked(serials[i], addresses[i], marks[i], page)
 }
 
-fn say_found(serial: u32, address: u8, page: &mut Page, used: usize) -> usize {
-    let numbers = [serial as u64, address as u64];
-    say::filled(page, used, b"  found ^ at $\n", &numbers)
+fn say_found(serial: u32, address: u8, page: Page) -> Page {
+    texts::text(page, texts::ROW_FOUND, two(serial as u64, address as u64))
 }
 
-fn say_marked(serial: u32, address: u8, mark: u8, page: &mut Page, used: usize) -> usize {
-    let numbers = [serial as u64, address as u64, mark as u64];
-    say::filled(page, used, b"  ^ at $ mark #\n", &numbers)
+fn say_marked(serial: u32, address: u8, mark: u8, page: Page) -> Page {
+    let row = three(serial as u64, address as u64, mark as u64);
+    texts::text(page, texts::ROW_MARKED, row)
 }
 
 // ---- requests
@@ -164,11 +161,11 @@ pub(crate) enum Asked {
     Frame,
 }
 
-pub(crate) fn request(asked: Asked, d: Desk, page: &mut Page) -> Desk {
-    ask(asked, b"", d, page)
+pub(crate) fn request(asked: Asked, d: Desk) -> Desk {
+    ask(asked, b"", d)
 }
 
-fn ask(asked: Asked, frame: &[u8], d: Desk, page: &mut Page) -> Desk {
+fn ask(asked: Asked, frame: &[u8], d: Desk) -> Desk {
     let mut answer = [FILL; FULL];
     let table = d.table;
     let rows = table.rows;
@@ -183,16 +180,16 @@ fn ask(asked: Asked, frame: &[u8], d: Desk, page: &mut Page) -> Desk {
         lent(&mut marks, rows),
         lent(&mut answer, d.room),
     );
-    let used = say_answer(a, &answer, page, d.used);
-    d.with_table(table.with_marks(marks)).with_used(used)
+    let page = say_answer(a, &answer, d.page);
+    d.with_table(table.with_marks(marks)).with_page(page)
 }
 
-pub(crate) fn offer(line: &[u8], at: usize, d: Desk, page: &mut Page) -> Desk {
+pub(crate) fn offer(line: &[u8], at: usize, d: Desk) -> Desk {
     let mut store = [0u8; hex::MOST];
     let read = hex::bytes(line, at, &mut store);
     match read {
-        BytesRead::Bytes(n) => ask(Asked::Frame, start_of(&store, n), d, page),
-        BytesRead::Wrong(why) => d.wrong(page, why),
+        BytesRead::Bytes(n) => ask(Asked::Frame, start_of(&store, n), d),
+        BytesRead::Wrong(why) => d.wrong(why),
     }
 }
 
@@ -211,25 +208,25 @@ fn response(
     }
 }
 
-fn say_answer(a: Response, answer: &[u8], page: &mut Page, used: usize) -> usize {
+fn say_answer(a: Response, answer: &[u8], page: Page) -> Page {
     match a {
-        Response::Answered(n) => say::named(page, used, b"answer", start_of(answer, n)),
-        Response::Silent => say::text(page, used, b"silence\n"),
-        Response::Refused(why) => say::refused(page, used, why),
+        Response::Answered(n) => say::named(page, texts::ANSWER, start_of(answer, n)),
+        Response::Silent => texts::plain(page, texts::SILENCE),
+        Response::Refused(why) => say::refused(page, why),
     }
 }
 
 // ---- a whole scan
 
-pub(crate) fn scan(line: &[u8], at: usize, d: Desk, page: &mut Page) -> Desk {
+pub(crate) fn scan(line: &[u8], at: usize, d: Desk) -> Desk {
     let read = last_number(line, at, u64::MAX);
     match read {
-        NumberRead::Wrong(why) => d.wrong(page, why),
-        NumberRead::Number(cap, _) => scanned(cap as usize, d, page),
+        NumberRead::Wrong(why) => d.wrong(why),
+        NumberRead::Number(cap, _) => scanned(cap as usize, d),
     }
 }
 
-fn scanned(cap: usize, d: Desk, page: &mut Page) -> Desk {
+fn scanned(cap: usize, d: Desk) -> Desk {
     let mut found_serials = [0x5A5A5A5Au32; MOST_ROOM];
     let mut found_addresses = [FILL; MOST_ROOM];
     let table = d.table;
@@ -245,28 +242,42 @@ fn scanned(cap: usize, d: Desk, page: &mut Page) -> Desk {
         lent(&mut found_addresses, d.room),
         cap,
     );
-    let used = say_scan(s, &found_serials, &found_addresses, page, d.used);
-    d.with_table(table.with_marks(marks)).with_used(used)
+    let page = say_scan(s, &found_serials, &found_addresses, d.page);
+    d.with_table(table.with_marks(marks)).with_page(page)
+}
+
+// How a scan ended: the text for it, with how many requests were sent and how many devices heard.
+struct Ending {
+    text: u8,
+    requests: usize,
+    heard: usize,
+}
+
+fn ended(text: u8, requests: usize, heard: usize) -> Ending {
+    Ending {
+        text,
+        requests,
+        heard,
+    }
 }
 
 // A complete scan has heard one device fewer than it sent requests: the last was answered by the
 // end. An unfinished one has heard a device at each request.
-fn say_scan(s: Scanned, serials: &[u32], addresses: &[u8], page: &mut Page, used: usize) -> usize {
+fn say_scan<'a>(s: Scanned, serials: &'a [u32], addresses: &'a [u8], page: Page) -> Page {
     match s {
         Scanned::Complete(n) => {
-            let a = say_requests(b"Complete, # requests\n", n, page, used);
             let heard = if n == 0 { 0 } else { n - 1 };
-            say_rows(heard, serials, addresses, b"", page, a)
+            say_ending(ended(texts::COMPLETE, n, heard), serials, addresses, page)
         }
-        Scanned::Nobody(n) => say_requests(b"Nobody, # requests\n", n, page, used),
+        Scanned::Nobody(n) => say_ending(ended(texts::NOBODY, n, 0), serials, addresses, page),
         Scanned::Unfinished(n) => {
-            let a = say_requests(b"Unfinished, # requests\n", n, page, used);
-            say_rows(n, serials, addresses, b"", page, a)
+            say_ending(ended(texts::UNFINISHED, n, n), serials, addresses, page)
         }
-        Scanned::Refused(why) => say::refused(page, used, why),
+        Scanned::Refused(why) => say::refused(page, why),
     }
 }
 
-fn say_requests(ended: &[u8], n: usize, page: &mut Page, used: usize) -> usize {
-    say::filled(page, used, ended, &[n as u64])
+fn say_ending<'a>(e: Ending, serials: &'a [u32], addresses: &'a [u8], page: Page) -> Page {
+    let said = texts::text(page, e.text, one(e.requests as u64));
+    say_rows(e.heard, serials, addresses, b"", said)
 }

@@ -13,59 +13,62 @@ use crate::part::lent;
 use crate::part::start_of;
 use crate::say;
 use crate::say::Page;
+use crate::say::one;
+use crate::say::three;
+use crate::texts;
 use crate::word;
 use addresses::ExchangeKind;
 use exchange::judge::Judged;
 
-pub(crate) fn check(input: &[u8], page: &mut Page, used: usize) -> usize {
+pub(crate) fn check(input: &[u8], page: Page) -> Page {
     let byte = checkbyte::ebus_check(input);
-    say::filled(page, used, b"check $\n", &[byte as u64])
+    texts::text(page, texts::EBUS_CHECK, one(byte as u64))
 }
 
-pub(crate) fn expand(input: &[u8], room: usize, page: &mut Page, used: usize) -> usize {
+pub(crate) fn expand(input: &[u8], room: usize, page: Page) -> Page {
     let mut out = [FILL; FULL];
     let w = escapes::expand(input, lent(&mut out, room));
-    say::written(page, used, w, &out)
+    say::written(page, w, &out)
 }
 
-pub(crate) fn undo(input: &[u8], room: usize, page: &mut Page, used: usize) -> usize {
+pub(crate) fn undo(input: &[u8], room: usize, page: Page) -> Page {
     let mut out = [FILL; FULL];
     let w = escapes::undo(input, lent(&mut out, room));
-    say::written(page, used, w, &out)
+    say::written(page, w, &out)
 }
 
-pub(crate) fn write_reply(input: &[u8], room: usize, page: &mut Page, used: usize) -> usize {
+pub(crate) fn write_reply(input: &[u8], room: usize, page: Page) -> Page {
     let mut out = [FILL; FULL];
     let w = sending::write_reply(input, lent(&mut out, room));
-    say::written(page, used, w, &out)
+    say::written(page, w, &out)
 }
 
-pub(crate) fn kind(line: &[u8], at: usize, d: Desk, page: &mut Page) -> Desk {
+pub(crate) fn kind(line: &[u8], at: usize, d: Desk) -> Desk {
     let read = digits(line, at, 2);
     match read {
-        NumberRead::Wrong(why) => d.wrong(page, why),
+        NumberRead::Wrong(why) => d.wrong(why),
         NumberRead::Number(destination, next) => {
             if word::more(line, next) {
-                return extra(line, next, d, page);
+                return extra(line, next, d);
             }
             let found = addresses::kind((destination % 256) as u8);
-            let a = say_kind(found, page, d.used);
-            d.with_used(say::byte(page, a, b'\n'))
+            let said = texts::plain(d.page, kind_text(found));
+            d.with_page(say::byte(said, b'\n'))
         }
     }
 }
 
-fn say_kind(k: ExchangeKind, page: &mut Page, used: usize) -> usize {
+fn kind_text(k: ExchangeKind) -> u8 {
     match k {
-        ExchangeKind::Broadcast => say::text(page, used, b"broadcast"),
-        ExchangeKind::InitiatorInitiator => say::text(page, used, b"initiator/initiator"),
-        ExchangeKind::InitiatorTarget => say::text(page, used, b"initiator/target"),
+        ExchangeKind::Broadcast => texts::BROADCAST,
+        ExchangeKind::InitiatorInitiator => texts::INITIATOR_INITIATOR,
+        ExchangeKind::InitiatorTarget => texts::INITIATOR_TARGET,
     }
 }
 
 // ---- the judge
 
-pub(crate) fn judge(run: &[u8], room: usize, page: &mut Page, used: usize) -> usize {
+pub(crate) fn judge(run: &[u8], room: usize, page: Page) -> Page {
     let mut command = [FILL; FULL];
     let mut first = [FILL; FULL];
     let mut second = [FILL; FULL];
@@ -81,7 +84,6 @@ pub(crate) fn judge(run: &[u8], room: usize, page: &mut Page, used: usize) -> us
         start_of(&first, room),
         start_of(&second, room),
         page,
-        used,
     )
 }
 
@@ -90,32 +92,19 @@ fn say_judged<'a>(
     command: &'a [u8],
     first: &'a [u8],
     second: &'a [u8],
-    page: &mut Page,
-    used: usize,
-) -> usize {
+    page: Page,
+) -> Page {
     match judged {
-        Judged::Refused(why) => say::refused(page, used, why),
+        Judged::Refused(why) => say::refused(page, why),
         Judged::Accepted(kind, commands, replies, bytes) => {
-            let a = accepted(kind, commands, replies, bytes, page, used);
-            let b = telegram(b"  command", command, 4, page, a);
-            say_replies(first, second, replies, page, b)
+            let a = texts::plain(page, texts::ACCEPTED);
+            let b = texts::plain(a, kind_text(kind));
+            let attempts = three(commands as u64, replies as u64, bytes as u64);
+            let c = texts::text(b, texts::ATTEMPTS, attempts);
+            let d = telegram(texts::COMMAND, command, 4, c);
+            say_replies(first, second, replies, d)
         }
     }
-}
-
-// The first line of an accepted exchange.
-fn accepted(
-    kind: ExchangeKind,
-    commands: u8,
-    replies: u8,
-    bytes: usize,
-    page: &mut Page,
-    used: usize,
-) -> usize {
-    let numbers = [commands as u64, replies as u64, bytes as u64];
-    let a = say::text(page, used, b"accepted ");
-    let b = say_kind(kind, page, a);
-    say::filled(page, b, b", attempts # and #, # bytes read\n", &numbers)
 }
 
 // How long the telegram at the start of a buffer is, whose LEN stands at this place: LEN, its data
@@ -128,39 +117,23 @@ fn telegram_length(buffer: &[u8], at: usize) -> usize {
 }
 
 // A line with the telegram at the start of a buffer.
-fn telegram(name: &[u8], buffer: &[u8], at: usize, page: &mut Page, used: usize) -> usize {
+fn telegram(name: u8, buffer: &[u8], at: usize, page: Page) -> Page {
     let n = telegram_length(buffer, at);
-    say::named(page, used, name, start_of(buffer, n))
+    say::named(page, name, start_of(buffer, n))
 }
 
 // The replies that happened, and the data of the one that was acknowledged.
-fn say_replies<'a>(
-    first: &'a [u8],
-    second: &'a [u8],
-    replies: u8,
-    page: &mut Page,
-    used: usize,
-) -> usize {
-    if replies < 1 {
-        return say_data(first, second, replies, page, used);
-    }
-    let a = telegram(b"  reply 1", first, 0, page, used);
-    if replies < 2 {
-        return say_data(first, second, replies, page, a);
-    }
-    let b = telegram(b"  reply 2", second, 0, page, a);
-    say_data(first, second, replies, page, b)
-}
-
-fn say_data<'a>(
-    first: &'a [u8],
-    second: &'a [u8],
-    replies: u8,
-    page: &mut Page,
-    used: usize,
-) -> usize {
+fn say_replies<'a>(first: &'a [u8], second: &'a [u8], replies: u8, page: Page) -> Page {
     let data = replies::reply_data(first, second, replies);
-    say::named(page, used, b"  data", data)
+    if replies < 1 {
+        return say::named(page, texts::DATA, data);
+    }
+    let a = telegram(texts::REPLY_1, first, 0, page);
+    if replies < 2 {
+        return say::named(a, texts::DATA, data);
+    }
+    let b = telegram(texts::REPLY_2, second, 0, a);
+    say::named(b, texts::DATA, data)
 }
 
 // ---- writing a command
@@ -205,27 +178,27 @@ fn read_head(line: &[u8], at: usize) -> HeadRead {
     HeadRead::Head(head, data_at)
 }
 
-pub(crate) fn write_command(line: &[u8], at: usize, d: Desk, page: &mut Page) -> Desk {
+pub(crate) fn write_command(line: &[u8], at: usize, d: Desk) -> Desk {
     let read = read_head(line, at);
     match read {
-        HeadRead::Wrong(why) => d.wrong(page, why),
-        HeadRead::Head(head, data_at) => write_behind(head, line, data_at, d, page),
+        HeadRead::Wrong(why) => d.wrong(why),
+        HeadRead::Head(head, data_at) => write_behind(head, line, data_at, d),
     }
 }
 
-fn write_behind(head: Head, line: &[u8], data_at: usize, d: Desk, page: &mut Page) -> Desk {
+fn write_behind(head: Head, line: &[u8], data_at: usize, d: Desk) -> Desk {
     let mut store = [0u8; hex::MOST];
     let read = hex::bytes(line, data_at, &mut store);
     match read {
-        BytesRead::Wrong(why) => d.wrong(page, why),
+        BytesRead::Wrong(why) => d.wrong(why),
         BytesRead::Bytes(n) => {
             let data = start_of(&store, n);
-            d.with_used(write_whole(head, data, d.room, page, d.used))
+            d.with_page(write_whole(head, data, d.room, d.page))
         }
     }
 }
 
-fn write_whole(head: Head, data: &[u8], room: usize, page: &mut Page, used: usize) -> usize {
+fn write_whole(head: Head, data: &[u8], room: usize, page: Page) -> Page {
     let mut out = [FILL; FULL];
     let w = sending::write_command(
         head.source,
@@ -235,5 +208,5 @@ fn write_whole(head: Head, data: &[u8], room: usize, page: &mut Page, used: usiz
         data,
         lent(&mut out, room),
     );
-    say::written(page, used, w, &out)
+    say::written(page, w, &out)
 }

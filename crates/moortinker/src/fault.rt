@@ -1,7 +1,9 @@
 // What was wrong with a line that can't be read, and where.
-use crate::names;
-use crate::say;
+use crate::names::numbered;
 use crate::say::Page;
+use crate::say::no_number;
+use crate::say::two;
+use crate::texts;
 
 // What can be wrong, as a number; `say_what` has the words.
 pub(crate) const UNKNOWN_COMMAND: u8 = 1;
@@ -39,8 +41,9 @@ pub(crate) fn fault_at(what: u8, at: usize) -> Fault {
 }
 
 // What was wrong, in words.
-fn say_what(what: u8, page: &mut Page, used: usize) -> usize {
-    names::numbered(
+fn say_what(page: Page, what: u8) -> Page {
+    numbered(
+        page,
         b"1 no such command
 2 a word is missing
 3 a word too many
@@ -55,17 +58,15 @@ fn say_what(what: u8, page: &mut Page, used: usize) -> usize {
 12 line longer than 65535 bytes
 ",
         what,
-        page,
-        used,
+        no_number(),
     )
 }
 
 // The answer to a line that can't be read. Lines and columns count from 1.
-pub(crate) fn say_fault(why: Fault, line: u64, page: &mut Page, used: usize) -> usize {
-    let place = [line, one_more(why.at as u64)];
-    let a = say::text(page, used, b"error: ");
-    let b = say_what(why.what, page, a);
-    say::filled(page, b, b" at line #, column #\n", &place)
+pub(crate) fn say_fault(page: Page, why: Fault, line: u64) -> Page {
+    let a = texts::plain(page, texts::ERROR);
+    let b = say_what(a, why.what);
+    texts::text(b, texts::ERROR_END, two(line, one_more(why.at as u64)))
 }
 
 // The next number, where there is one.

@@ -1,21 +1,21 @@
 // What the commands are.
 use crate::say;
 use crate::say::Page;
+use crate::say::no_number;
 
 // One line on what this is, for a person at a terminal.
-pub(crate) fn greet(page: &mut Page, used: usize) -> usize {
-    let a = say::text(
+pub(crate) fn greet(page: Page) -> Page {
+    let a = say::filled(
         page,
-        used,
-        b"Moortinker: one command a line, answered by the proved library.\n",
+        b"Moortinker: one command a line, answered by the proved library.|",
+        no_number(),
     );
-    commands(page, a)
+    commands(a)
 }
 
-pub(crate) fn commands(page: &mut Page, used: usize) -> usize {
-    say::text(
+pub(crate) fn commands(page: Page) -> Page {
+    say::filled(
         page,
-        used,
         b"commands
   help                  what the commands are
   room NUM              lend outputs of NUM bytes or entries, 0 to 8192
@@ -43,5 +43,6 @@ pub(crate) fn commands(page: &mut Page, used: usize) -> usize {
   offer HEX             offer them a raw frame
   scan NUM              scan the whole table, NUM requests at most
 ",
+        no_number(),
     )
 }

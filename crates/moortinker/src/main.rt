@@ -13,12 +13,12 @@ mod names;
 mod number;
 mod part;
 mod say;
+mod texts;
 mod word;
 
 use desk::Desk;
 use fault::LINE_TOO_LONG;
 use line::Window;
-use say::Page;
 
 // What the loop over lines carries. `over` says that the input has ended.
 struct State {
@@ -29,30 +29,29 @@ struct State {
 
 fn main() {
     let mut input = io::large_buffer();
-    let mut page = io::large_buffer();
-    session(&mut input, &mut page);
+    session(&mut input);
 }
 
 // A person at a terminal is told what the commands are.
-fn greeting(page: &mut Page) -> usize {
+fn greeted(d: Desk) -> Desk {
     if libc::isatty(libc::STDIN_FILENO) == 1 {
-        return help::greet(page, 0);
+        return d.with_page(help::greet(d.page));
     }
-    0
+    d
 }
 
 // A proved loop has to end, and nothing says that the input does. So the loop counts its turns
 // down, from a number that no run uses up.
-fn session(input: &mut [u8], page: &mut Page) {
+fn session(input: &mut [u8]) {
     let mut turns = u64::MAX;
     let mut s = State {
         window: line::new(),
-        desk: desk::new().with_used(greeting(page)),
+        desk: greeted(desk::new()),
         over: false,
     };
     while turns > 0 {
         turns -= 1;
-        s = turn(s, input, page);
+        s = turn(s, input);
         if s.over {
             return;
         }
@@ -60,31 +59,30 @@ fn session(input: &mut [u8], page: &mut Page) {
 }
 
 // Obeys the next line where it is there whole, and otherwise reads more.
-fn turn(s: State, input: &mut [u8], page: &mut Page) -> State {
+fn turn(s: State, input: &mut [u8]) -> State {
     let window = s.window;
     let to = window.to;
     let end = line::end_of(input, window.from, to);
     if end < to {
-        let desk = obey(window, end, s.desk, input, page);
+        let desk = obey(window, end, s.desk, input);
         return State {
             window: window.past(end),
             desk: desk.past_line(),
             over: false,
         };
     }
-    let next = more(s, input, page);
+    let next = more(s, input);
     if next.over {
-        return last(next, input, page);
+        return last(next, input);
     }
     next
 }
 
 // Reads more behind the part of a line that is there. What was answered so far is written out
 // first, so that a person at a terminal sees it before the tool waits.
-fn more(s: State, input: &mut [u8], page: &mut Page) -> State {
+fn more(s: State, input: &mut [u8]) -> State {
     let window = s.window;
-    say::flush(page, s.desk.used);
-    let desk = s.desk.with_used(0);
+    let desk = s.desk.written_out();
     let from = if window.skipping {
         window.to
     } else {
@@ -94,7 +92,7 @@ fn more(s: State, input: &mut [u8], page: &mut Page) -> State {
     if input.len() <= held {
         return State {
             window: window.too_long(),
-            desk: desk.wrong_at(page, LINE_TOO_LONG, 0),
+            desk: desk.wrong_at(LINE_TOO_LONG, 0),
             over: false,
         };
     }
@@ -107,19 +105,22 @@ fn more(s: State, input: &mut [u8], page: &mut Page) -> State {
 }
 
 // The input has ended: what is left is a line without its newline.
-fn last(s: State, input: &[u8], page: &mut Page) -> State {
+fn last(s: State, input: &[u8]) -> State {
     let window = s.window;
-    let desk = obey(window, window.to, s.desk, input, page);
-    say::flush(page, desk.used);
-    s
+    let desk = obey(window, window.to, s.desk, input);
+    State {
+        window,
+        desk: desk.written_out(),
+        over: true,
+    }
 }
 
 // Obeys the line that ends at `end`, unless the rest of one that is too long is passed over.
-fn obey(window: Window, end: usize, d: Desk, input: &[u8], page: &mut Page) -> Desk {
+fn obey(window: Window, end: usize, d: Desk, input: &[u8]) -> Desk {
     if window.skipping {
         return d;
     }
     let from = window.from;
     let to = line::trimmed(input, from, end);
-    commands::answer(word::part(input, from, to), d, page)
+    commands::answer(word::part(input, from, to), d)
 }

@@ -1,12 +1,15 @@
 // The short names of the numbers of refusals, and how a numbered line of a list is said.
 use crate::line;
 use crate::say;
+use crate::say::Numbers;
 use crate::say::Page;
+use crate::say::no_number;
 use crate::word;
 
 // A line for each number, as in docs/numbers.txt.
-pub(crate) fn name(page: &mut Page, used: usize, number: u8) -> usize {
+pub(crate) fn name(page: Page, number: u8) -> Page {
     numbered(
+        page,
         b"1 output too short
 2 table not valid
 3 run ended
@@ -26,28 +29,27 @@ pub(crate) fn name(page: &mut Page, used: usize, number: u8) -> usize {
 17 serial too large
 ",
         number,
-        page,
-        used,
+        no_number(),
     )
 }
 
-// Says the words of the line that begins with this number.
-pub(crate) fn numbered(lines: &[u8], number: u8, page: &mut Page, used: usize) -> usize {
+// Says the words of the line that begins with this number, filled with these.
+pub(crate) fn numbered(page: Page, lines: &[u8], number: u8, numbers: Numbers) -> Page {
     let mut digits = [0u8; 20];
     let k = io::decimal(number as u64, &mut digits);
-    words_behind(lines, &digits[..k], page, used)
+    words_behind(page, lines, &digits[..k], numbers)
 }
 
 // Says the words of the line that begins with these digits.
-fn words_behind(lines: &[u8], number: &[u8], page: &mut Page, used: usize) -> usize {
+fn words_behind(page: Page, lines: &[u8], number: &[u8], numbers: Numbers) -> Page {
     let mut i = 0;
     while i < lines.len() {
         if begins(lines, i, number) {
-            return say::text(page, used, behind(lines, i));
+            return say::filled(page, behind(lines, i), numbers);
         }
         i += 1;
     }
-    say::text(page, used, b"no name")
+    say::filled(page, b"no name", numbers)
 }
 
 // Whether a line begins here, and this is its first word.

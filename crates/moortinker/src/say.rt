@@ -1,46 +1,70 @@
 // The page: answers are collected here, and written out when it is full or before more input is
-// read. Each function puts something behind the bytes used so far and answers how many are used
-// then.
+// read.
+//
+// A page is handed on by value. Each function takes one and answers it with something more on it.
 use crate::names;
 use crate::part::start_of;
+use crate::texts;
 use libc::STDOUT_FILENO;
 use refusal::Refusal;
 use refusal::Written;
 
 // How many bytes a page has.
-const PAGE: usize = 65536;
+const PAGE: usize = 4096;
 
-pub(crate) type Page = [u8; PAGE];
+pub(crate) struct Page {
+    bytes: [u8; PAGE],
+    // How many of them wait to be written out.
+    used: usize,
+}
+
+pub(crate) fn empty() -> Page {
+    Page {
+        bytes: [0u8; PAGE],
+        used: 0,
+    }
+}
 
 // Writes out what waits.
-pub(crate) fn flush(page: &Page, used: usize) {
-    io::write_all(STDOUT_FILENO, start_of(page, used));
+pub(crate) fn flush(page: Page) -> Page {
+    let used = page.used;
+    let bytes = page.bytes;
+    io::write_all(STDOUT_FILENO, start_of(&bytes, used));
+    empty()
 }
 
-pub(crate) fn byte(page: &mut Page, used: usize, b: u8) -> usize {
-    if used < PAGE {
-        page[used] = b;
-        return used + 1;
+// A page with room for a byte.
+fn roomy(page: Page) -> Page {
+    if page.used < PAGE {
+        return page;
     }
-    flush(page, used);
-    page[0] = b;
-    1
+    flush(page)
 }
 
-pub(crate) fn text(page: &mut Page, used: usize, bytes: &[u8]) -> usize {
-    let mut n = used;
+pub(crate) fn byte(page: Page, b: u8) -> Page {
+    let mut next = roomy(page);
+    let used = next.used;
+    if used < PAGE {
+        next.bytes[used] = b;
+        next.used = used + 1;
+    }
+    next
+}
+
+fn put(page: Page, bytes: &[u8]) -> Page {
+    let mut p = page;
     let mut i = 0;
     while i < bytes.len() {
-        n = byte(page, n, bytes[i]);
+        p = byte(p, bytes[i]);
         i += 1;
     }
-    n
+    p
 }
 
-pub(crate) fn decimal(page: &mut Page, used: usize, number: u64) -> usize {
+fn decimal(page: Page, number: u64) -> Page {
     let mut digits = [0u8; 20];
     let k = io::decimal(number, &mut digits);
-    text(page, used, &digits[..k])
+    put(page, &digits[..k])
 }
 
 // A digit's letter, in upper case.
@@ -49,94 +73,98 @@ fn glyph(digit: u8) -> u8 {
     if d < 10 { 48 + d } else { 55 + d }
 }
 
-pub(crate) fn hex(page: &mut Page, used: usize, b: u8) -> usize {
-    let n = byte(page, used, glyph(b / 16));
-    byte(page, n, glyph(b))
+fn hex(page: Page, b: u8) -> Page {
+    byte(byte(page, glyph(b / 16)), glyph(b))
 }
 
 // Bytes, each behind a space.
-pub(crate) fn bytes(page: &mut Page, used: usize, list: &[u8]) -> usize {
-    let mut n = used;
+fn bytes(page: Page, list: &[u8]) -> Page {
+    let mut p = page;
     let mut i = 0;
     while i < list.len() {
-        n = byte(page, n, b' ');
-        n = hex(page, n, list[i]);
+        p = hex(byte(p, b' '), list[i]);
         i += 1;
     }
-    n
+    p
 }
 
 // A serial, in eight digits.
-pub(crate) fn serial(page: &mut Page, used: usize, s: u32) -> usize {
-    let a = hex(page, used, (s / 0x1000000) as u8);
-    let b = hex(page, a, (s / 0x10000 % 256) as u8);
-    let c = hex(page, b, (s / 0x100 % 256) as u8);
-    hex(page, c, (s % 256) as u8)
+fn serial(page: Page, s: u32) -> Page {
+    let a = hex(page, (s / 0x1000000) as u8);
+    let b = hex(a, (s / 0x10000 % 256) as u8);
+    let c = hex(b, (s / 0x100 % 256) as u8);
+    hex(c, (s % 256) as u8)
 }
 
-// The next of the numbers, or 0 where none is left.
-fn number_at(numbers: &[u64], taken: usize) -> u64 {
-    if taken < numbers.len() {
-        numbers[taken]
-    } else {
-        0
-    }
+// Up to three numbers that a text is filled with, the next one first.
+pub(crate) struct Numbers(u64, u64, u64);
+
+pub(crate) fn no_number() -> Numbers {
+    Numbers(0, 0, 0)
 }
 
-// How many numbers are taken behind this byte of a text.
-fn taken_behind(b: u8, numbers: &[u64], taken: usize) -> usize {
-    if numbers.len() <= taken {
-        return taken;
-    }
+pub(crate) fn one(a: u64) -> Numbers {
+    Numbers(a, 0, 0)
+}
+
+pub(crate) fn two(a: u64, b: u64) -> Numbers {
+    Numbers(a, b, 0)
+}
+
+pub(crate) fn three(a: u64, b: u64, c: u64) -> Numbers {
+    Numbers(a, b, c)
+}
+
+// The numbers that are left behind this byte of a text.
+fn left_behind(b: u8, numbers: Numbers) -> Numbers {
     match b {
-        b'#' | b'$' | b'^' => taken + 1,
-        _ => taken,
+        b'#' | b'$' | b'^' => Numbers(numbers.1, numbers.2, 0),
+        _ => numbers,
     }
 }
 
 // A byte of a text, or the number that it stands for.
-fn piece(page: &mut Page, used: usize, b: u8, number: u64) -> usize {
+fn piece(page: Page, b: u8, number: u64) -> Page {
     match b {
-        b'#' => decimal(page, used, number),
-        b'$' => hex(page, used, (number % 256) as u8),
-        b'^' => serial(page, used, (number % 0x100000000) as u32),
-        _ => byte(page, used, b),
+        b'#' => decimal(page, number),
+        b'$' => hex(page, (number % 256) as u8),
+        b'^' => serial(page, (number % 0x100000000) as u32),
+        b'_' => byte(page, b' '),
+        b'|' => byte(page, b'\n'),
+        _ => byte(page, b),
     }
 }
 
-// A text in which `#` stands for the next number in decimal, `$` for it in two hexadecimal digits
-// and `^` for it in eight.
-pub(crate) fn filled(page: &mut Page, used: usize, text: &[u8], numbers: &[u64]) -> usize {
-    let mut n = used;
-    let mut taken = 0;
+// A text in which `#` stands for the next number in decimal, `$` for it in two hexadecimal digits,
+// `^` for it in eight, `_` for a blank, and `|` for the end of a line.
+pub(crate) fn filled(page: Page, text: &[u8], numbers: Numbers) -> Page {
+    let mut p = page;
+    let mut left = numbers;
     let mut i = 0;
     while i < text.len() {
         let b = text[i];
-        n = piece(page, n, b, number_at(numbers, taken));
-        taken = taken_behind(b, numbers, taken);
+        p = piece(p, b, left.0);
+        left = left_behind(b, left);
         i += 1;
     }
-    n
+    p
 }
 
 // A line of bytes, behind their name.
-pub(crate) fn named(page: &mut Page, used: usize, name: &[u8], list: &[u8]) -> usize {
-    let a = text(page, used, name);
-    let b = bytes(page, a, list);
-    byte(page, b, b'\n')
+pub(crate) fn named(page: Page, name: u8, list: &[u8]) -> Page {
+    byte(bytes(texts::plain(page, name), list), b'\n')
 }
 
-pub(crate) fn refused(page: &mut Page, used: usize, why: Refusal) -> usize {
-    let numbers = [why.number as u64, why.place as u64];
-    let a = filled(page, used, b"refused # at #  (", &numbers);
-    let b = names::name(page, a, why.number);
-    text(page, b, b")\n")
+pub(crate) fn refused(page: Page, why: Refusal) -> Page {
+    let numbers = two(why.number as u64, why.place as u64);
+    let a = texts::text(page, texts::REFUSED, numbers);
+    texts::plain(names::name(a, why.number), texts::REFUSED_END)
 }
 
 // What a writer answered, with what stands at the start of its output.
-pub(crate) fn written(page: &mut Page, used: usize, w: Written, out: &[u8]) -> usize {
+pub(crate) fn written(page: Page, w: Written, out: &[u8]) -> Page {
     match w {
-        Written::Length(n) => named(page, used, b"ok", start_of(out, n)),
-        Written::Refused(why) => refused(page, used, why),
+        Written::Length(n) => named(page, texts::WRITTEN, start_of(out, n)),
+        Written::Refused(why) => refused(page, why),
     }
 }

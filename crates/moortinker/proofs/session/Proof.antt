@@ -7,11 +7,10 @@ use Rattle.moortinker.proofs.session.Statement.{statement}
 use Rattle.moortinker.proofs.session.Tie as tie
 
 abbrev Inv-loop : tie.InvT-loop
-Inv-loop input₀ page₀ turns₀ s₀ input page turns s =
-    length input ≡ length input₀
+Inv-loop input₀ turns₀ s₀ input turns s = length input ≡ length input₀
 
 abbrev μ-loop : tie.MeasureT-loop
-μ-loop input₀ page₀ turns₀ s₀ input page turns s = turns
+μ-loop input₀ turns₀ s₀ input turns s = turns
 
 new-requires : tie.Need-new-requires Inv-loop μ-loop
 new-requires c κs = search needs
@@ -19,11 +18,8 @@ new-requires c κs = search needs
 new-requires-2 : tie.Need-new-requires-2 Inv-loop μ-loop
 new-requires-2 c κs = search needs
 
-greeting-requires : tie.Need-greeting-requires Inv-loop μ-loop
-greeting-requires c κs = search needs
-
-with-used-requires : tie.Need-with-used-requires Inv-loop μ-loop
-with-used-requires c κs = search needs
+greeted-requires : tie.Need-greeted-requires Inv-loop μ-loop
+greeted-requires c κs = search needs
 
 loop-holds : tie.Need-loop-holds Inv-loop μ-loop
 loop-holds c = search needs
@@ -60,8 +56,7 @@ session-spec =
     μ-loop
     new-requires
     new-requires-2
-    greeting-requires
-    with-used-requires
+    greeted-requires
     loop-holds
     sub-turns
     turn-requires

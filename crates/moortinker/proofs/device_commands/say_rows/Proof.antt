@@ -6,10 +6,10 @@ use Rattle.moortinker.proofs.device_commands.say_rows.Statement.{statem
 use Rattle.moortinker.proofs.device_commands.say_rows.Tie as tie
 
 abbrev Inv-loop : tie.InvT-loop
-Inv-loop n serials addresses marks page₀ used at₀ i₀ page at i = i ≤ n
+Inv-loop n serials addresses marks p₀ i₀ p i = i ≤ n
 
 abbrev μ-loop : tie.MeasureT-loop
-μ-loop n serials addresses marks page₀ used at₀ i₀ page at i = n - i
+μ-loop n serials addresses marks p₀ i₀ p i = n - i
 
 loop-holds : tie.Need-loop-holds Inv-loop μ-loop
 loop-holds c = search needs

@@ -7,10 +7,10 @@ use Rattle.moortinker.proofs.names.words_behind.Statement.{statement}
 use Rattle.moortinker.proofs.names.words_behind.Tie as tie
 
 abbrev Inv-loop : tie.InvT-loop
-Inv-loop lines number page₀ used i₀ t6 page i = i ≤ length lines
+Inv-loop page lines number numbers i₀ t6 i = i ≤ length lines
 
 abbrev μ-loop : tie.MeasureT-loop
-μ-loop lines number page₀ used i₀ t6 page i = length lines - i
+μ-loop page lines number numbers i₀ t6 i = length lines - i
 
 loop-holds : tie.Need-loop-holds Inv-loop μ-loop
 loop-holds c = search needs
@@ -21,8 +21,8 @@ begins-requires c κs = search needs
 behind-requires : tie.Need-behind-requires Inv-loop μ-loop
 behind-requires c κs = search needs
 
-text-requires : tie.Need-text-requires Inv-loop μ-loop
-text-requires c κs = search needs
+filled-requires : tie.Need-filled-requires Inv-loop μ-loop
+filled-requires c κs = search needs
 
 returns : tie.Need-returns Inv-loop μ-loop
 returns c = search needs
@@ -36,11 +36,11 @@ loop-less c = search needs
 loop-again : tie.Need-loop-again Inv-loop μ-loop
 loop-again c = search needs
 
-slice-aggregate-text : tie.Need-slice-aggregate-text Inv-loop μ-loop
-slice-aggregate-text c = search needs
+slice-aggregate-filled : tie.Need-slice-aggregate-filled Inv-loop μ-loop
+slice-aggregate-filled c = search needs
 
-text-requires-2 : tie.Need-text-requires-2 Inv-loop μ-loop
-text-requires-2 c κs = search needs
+filled-requires-2 : tie.Need-filled-requires-2 Inv-loop μ-loop
+filled-requires-2 c κs = search needs
 
 returns-2 : tie.Need-returns-2 Inv-loop μ-loop
 returns-2 c = search needs
@@ -54,11 +54,11 @@ words-behind-spec =
     loop-holds
     begins-requires
     behind-requires
-    text-requires
+    filled-requires
     returns
     add-i
     loop-less
     loop-again
-    slice-aggregate-text
-    text-requires-2
+    slice-aggregate-filled
+    filled-requires-2
     returns-2)

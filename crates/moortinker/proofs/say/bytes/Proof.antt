@@ -7,10 +7,10 @@ use Rattle.moortinker.proofs.say.bytes.Statement.{statement}
 use Rattle.moortinker.proofs.say.bytes.Tie as tie
 
 abbrev Inv-loop : tie.InvT-loop
-Inv-loop page₀ used list n₀ i₀ page n i = i ≤ length list
+Inv-loop list p₀ i₀ p i = i ≤ length list
 
 abbrev μ-loop : tie.MeasureT-loop
-μ-loop page₀ used list n₀ i₀ page n i = length list - i
+μ-loop list p₀ i₀ p i = length list - i
 
 loop-holds : tie.Need-loop-holds Inv-loop μ-loop
 loop-holds c = search needs

@@ -7,10 +7,10 @@ use Rattle.moortinker.proofs.say.filled.Statement.{statement}
 use Rattle.moortinker.proofs.say.filled.Tie as tie
 
 abbrev Inv-loop : tie.InvT-loop
-Inv-loop page₀ used text numbers n₀ taken₀ i₀ page n taken i = i ≤ length text
+Inv-loop text p₀ left₀ i₀ p left i = i ≤ length text
 
 abbrev μ-loop : tie.MeasureT-loop
-μ-loop page₀ used text numbers n₀ taken₀ i₀ page n taken i = length text - i
+μ-loop text p₀ left₀ i₀ p left i = length text - i
 
 loop-holds : tie.Need-loop-holds Inv-loop μ-loop
 loop-holds c = search needs
@@ -18,14 +18,11 @@ loop-holds c = search needs
 shared-slice-read-b : tie.Need-shared-slice-read-b Inv-loop μ-loop
 shared-slice-read-b c = search needs
 
-number-at-requires : tie.Need-number-at-requires Inv-loop μ-loop
-number-at-requires c κs = search needs
-
 piece-requires : tie.Need-piece-requires Inv-loop μ-loop
 piece-requires c κs = search needs
 
-taken-behind-requires : tie.Need-taken-behind-requires Inv-loop μ-loop
-taken-behind-requires c κs = search needs
+left-behind-requires : tie.Need-left-behind-requires Inv-loop μ-loop
+left-behind-requires c κs = search needs
 
 add-i : tie.Need-add-i Inv-loop μ-loop
 add-i c = search needs
@@ -47,9 +44,8 @@ filled-spec =
     μ-loop
     loop-holds
     shared-slice-read-b
-    number-at-requires
     piece-requires
-    taken-behind-requires
+    left-behind-requires
     add-i
     loop-less
     loop-again

@@ -1,16 +1,16 @@
--- `moortinker::say::text` is safe and ends.
+-- `moortinker::say::put` is safe and ends.
 -- Assumes nothing.
 use Prim.Native.Nat.{_≤_, _-_}
 use lib.ListN.{length}
 use borrow.Author.Needs.{needs}
-use Rattle.moortinker.proofs.say.text.Statement.{statement}
-use Rattle.moortinker.proofs.say.text.Tie as tie
+use Rattle.moortinker.proofs.say.put.Statement.{statement}
+use Rattle.moortinker.proofs.say.put.Tie as tie
 
 abbrev Inv-loop : tie.InvT-loop
-Inv-loop page₀ used bytes n₀ i₀ page n i = i ≤ length bytes
+Inv-loop bytes p₀ i₀ p i = i ≤ length bytes
 
 abbrev μ-loop : tie.MeasureT-loop
-μ-loop page₀ used bytes n₀ i₀ page n i = length bytes - i
+μ-loop bytes p₀ i₀ p i = length bytes - i
 
 loop-holds : tie.Need-loop-holds Inv-loop μ-loop
 loop-holds c = search needs
@@ -33,8 +33,8 @@ loop-again c = search needs
 returns : tie.Need-returns Inv-loop μ-loop
 returns c = search needs
 
-pub text-spec : {M : Type 1} → statement M
-text-spec =
+pub put-spec : {M : Type 1} → statement M
+put-spec =
     tie.close
     (tie.spec
     Inv-loop
