@@ -1,25 +1,25 @@
--- What a byte does to the eBUS register, by any table that passes the test of crc/proofs/Table.antt, and one turn of the
--- check's loop: the byte at i enters the register, escaped, and what is left starts at i + 1.
+-- What a byte does to the eBUS register, by any table that passes the test of crc/proofs/Table.antt, and what an escaped one
+-- and two bytes at once do to it.
 -- Assumes nothing.
 use mathlib.Core.Path.{_≡_, refl, sym, ap, ap₂, _∙_, subst}
-use mathlib.Core.List.{List, [], _∷_}
-use mathlib.Core.Logic.{_⊎_, ⊎-elim}
+use mathlib.Core.List.{List, [], _∷_, _++_}
+use mathlib.Core.Logic.{_⊎_}
 use Prim.Native.Nat.{ℕ, zero, suc, _+_, _-_, _*_, _≤_, _<_}
 use native.Mathlib.Nat.{mod-one, div-one, mod-eq-of-lt}
 use native.Mathlib.Omega.{arith}
 use lib.Bits.{bitXor, xor-lt, xor-comm, xor-shifted}
 use lib.Dec.{lit<, lit≤}
-use lib.ListN.{length, getD, replicate, take, drop, drop-of-length-le}
-use lib.Seq.{getD-take, getD-drop}
+use lib.ListN.{length, getD, replicate, take, drop, drop-of-length-le, length-take, length-drop}
+use lib.Seq.{getD-take, getD-drop, take-all}
 use Rattle.crc.specs.Register.{left, steps, enter, bits}
 use Rattle.crc.proofs.Xor.{xor-assoc}
 use Rattle.crc.proofs.Register.{steps-xor, enter-spelled, bits-are-bits, spelled-bits}
 use Rattle.crc.proofs.Table.{IsTable, entry-lt, by-table}
 use Rattle.lists.proofs.Filling.{drop-next}
-use Rattle.escapes.specs.Escape.{esc, syn, expanded}
-use Rattle.escapes.proofs.Escaped.{expanded-plain, expanded-special}
+use Rattle.escapes.specs.Escape.{esc, syn, escaped}
+use Rattle.escapes.proofs.Escaped.{escaped-plain, escaped-special}
 use Rattle.checkbyte.specs.Check.{ebusPolynomial, ebusBytes}
-use Rattle.checkbyte.specs.BitByBit.{ebusAll, EbusTables, checkFrom, checkBy}
+use Rattle.checkbyte.specs.BitByBit.{ebusAll, EbusTable, EbusTables, checkFrom, checkBy}
 use Rattle.checkbyte.proofs.BitByBit.{ebus-table}
 
 module _ {table : List ℕ} (t : IsTable left 8 ebusPolynomial table) (r b : ℕ) (hr : r < 256) (hb : b < 256) where
@@ -35,35 +35,6 @@ module _ {table : List ℕ} (t : IsTable left 8 ebusPolynomial table) (r b : ℕ
       enter-spelled 8 ebusPolynomial r (bits 8 b) (lit< tt) (lit≤ tt) (bits-are-bits 8 b) hr
       ∙ ap₂ bitXor eight-left (spelled-bits 8 b ∙ mod-eq-of-lt hb)
 
-  pub ebus-lt : bitXor (getD table r 0) b < 256
-  ebus-lt = xor-lt 8 (getD table r 0) b (entry-lt left 8 ebusPolynomial table t (lit< tt) (lit≤ tt) r hr) hb
-
-module _ {table : List ℕ} (t : IsTable left 8 ebusPolynomial table) (logical : List ℕ) (i r : ℕ) (hi : i < length logical) (hr : r < 256) where
-  pub ebus-turn-plain : getD logical i 0 < 256 → (getD logical i 0 ≡ esc → ⊥) → (getD logical i 0 ≡ syn → ⊥)
-      → ebusBytes r (expanded (drop i logical)) ≡ ebusBytes (bitXor (getD table r 0) (getD logical i 0)) (expanded (drop (i + 1) logical))
-  unfolding ebusBytes
-  ebus-turn-plain hb no-esc no-syn =
-      ap (ebusBytes r) (expanded-plain logical i hi no-esc no-syn)
-      ∙ ap (λ (x : ℕ). ebusBytes x (expanded (drop (i + 1) logical))) (ebus-byte t r (getD logical i 0) hr hb)
-
-  -- the second byte of an escape is 00 or 01
-  second-lt : (getD logical i 0 ≡ esc) ⊎ (getD logical i 0 ≡ syn) → getD logical i 0 - esc < 256
-  second-lt which = ⊎-elim (λ (e : getD logical i 0 ≡ esc). omega arith) (λ (e : getD logical i 0 ≡ syn). omega arith) which
-
-  pub ebus-special-lt : (getD logical i 0 ≡ esc) ⊎ (getD logical i 0 ≡ syn)
-      → bitXor (getD table (bitXor (getD table r 0) esc) 0) (getD logical i 0 - esc) < 256
-  ebus-special-lt which = ebus-lt t (bitXor (getD table r 0) esc) (getD logical i 0 - esc) (ebus-lt t r esc hr (lit< tt)) (second-lt which)
-
-  pub ebus-turn-special : (getD logical i 0 ≡ esc) ⊎ (getD logical i 0 ≡ syn)
-      → ebusBytes r (expanded (drop i logical))
-      ≡ ebusBytes (bitXor (getD table (bitXor (getD table r 0) esc) 0) (getD logical i 0 - esc)) (expanded (drop (i + 1) logical))
-  unfolding ebusBytes
-  ebus-turn-special which =
-      ap (ebusBytes r) (expanded-special logical i hi which)
-      ∙ ap (λ (x : ℕ). ebusBytes x ((getD logical i 0 - esc) ∷ expanded (drop (i + 1) logical))) (ebus-byte t r esc hr (lit< tt))
-      ∙ ap (λ (x : ℕ). ebusBytes x (expanded (drop (i + 1) logical)))
-      (ebus-byte t (bitXor (getD table r 0) esc) (getD logical i 0 - esc) (ebus-lt t r esc hr (lit< tt)) (second-lt which))
-
 -- ---- a bit above the register's eight goes through an addition without carry
 
 pub above : (x y : ℕ) → x < 256 → y < 256 → bitXor x (256 + y) ≡ 256 + bitXor x y
@@ -74,38 +45,26 @@ above x y hx hy =
     ∙ xor-assoc 256 x y
     ∙ xor-shifted 1 8 (bitXor x y) (xor-lt 8 x y hx hy)
 
-pub table-lt : {table : List ℕ} → IsTable left 8 ebusPolynomial table → (k : ℕ) → k < 256 → getD table k 0 < 256
-table-lt {table} t k hk = entry-lt left 8 ebusPolynomial table t (lit< tt) (lit≤ tt) k hk
+-- ---- a byte, by the table that the first 256 entries are
 
--- ---- two bytes a step, by both tables
-
-module _ {tables : List ℕ} (t : EbusTables tables) where
+module _ (tables : List ℕ) (t : EbusTable (take 256 tables)) where
   is-table : IsTable left 8 ebusPolynomial (take 256 tables)
-  is-table = ebus-table (t .one)
+  is-table = ebus-table t
 
   low : (k : ℕ) → k < 256 → getD (take 256 tables) k 0 ≡ getD tables k 0
   low k h = getD-take 256 tables k 0 h
 
   pub low-lt : (k : ℕ) → k < 256 → getD tables k 0 < 256
-  low-lt k h = subst (λ (x : ℕ). x < 256) (low k h) (table-lt is-table k h)
+  low-lt k h =
+      subst (λ (x : ℕ). x < 256) (low k h) (entry-lt left 8 ebusPolynomial (take 256 tables) is-table (lit< tt) (lit≤ tt) k h)
 
-  -- eight steps, by the first table
+  -- there are so many
+  pub long-enough : 256 ≤ length tables
+  long-enough = omega (arith, t .size, length-take 256 tables)
+
+  -- eight steps, by the table
   eight : (k : ℕ) → k < 256 → steps left 8 ebusPolynomial 8 k ≡ getD tables k 0
   eight k h = eight-left is-table k 0 h (lit< tt) ∙ low k h
-
-  -- sixteen steps are eight and then eight
-  twice : (r : ℕ) → r < 256 → getD tables (256 + r) 0 ≡ getD tables (getD tables r 0) 0
-  unfolding ebusAll
-  twice r hr =
-      let first : ebusAll r (replicate 8 0) ≡ getD tables r 0 = sym (t .one .entry r hr) ∙ low r hr in
-      let hx = low-lt r hr in
-      sym (getD-drop 256 tables r 0)
-      ∙ t .two .entry r hr
-      ∙ ap (λ (k : ℕ). ebusAll k (replicate 8 0)) first
-      ∙ sym (t .one .entry (getD tables r 0) hx) ∙ low (getD tables r 0) hx
-
-  pub high-lt : (r : ℕ) → r < 256 → getD tables (256 + r) 0 < 256
-  high-lt r hr = subst (λ (x : ℕ). x < 256) (sym (twice r hr)) (low-lt (getD tables r 0) (low-lt r hr))
 
   module _ (r b : ℕ) (hr : r < 256) (hb : b < 256) where
     pub one-lt : bitXor (getD tables r 0) b < 256
@@ -115,23 +74,57 @@ module _ {tables : List ℕ} (t : EbusTables tables) where
     unfolding ebusBytes
     one-byte rest = ap (λ (x : ℕ). ebusBytes x rest) (ebus-byte is-table r b hr hb ∙ ap (λ (x : ℕ). bitXor x b) (low r hr))
 
+    pub enters-plain : (b ≡ esc → ⊥) → (b ≡ syn → ⊥) → (rest : List ℕ) → ebusBytes r (escaped b ++ rest) ≡ ebusBytes (bitXor (getD tables r 0) b) rest
+    enters-plain no-esc no-syn rest = ap (λ (l : List ℕ). ebusBytes r (l ++ rest)) (escaped-plain b no-esc no-syn) ∙ one-byte rest
+
+  pub enters-special : (r b : ℕ) → r < 256 → (b ≡ esc) ⊎ (b ≡ syn) → b - esc < 256 → (rest : List ℕ)
+      → ebusBytes r (escaped b ++ rest) ≡ ebusBytes (bitXor (getD tables (bitXor (getD tables r 0) esc) 0) (b - esc)) rest
+  enters-special r b hr which half rest =
+      ap (λ (l : List ℕ). ebusBytes r (l ++ rest)) (escaped-special b which)
+      ∙ one-byte r esc hr (lit< tt) ((b - esc) ∷ rest)
+      ∙ one-byte (bitXor (getD tables r 0) esc) (b - esc) (one-lt r esc hr (lit< tt)) half rest
+
+-- a table alone is its own start
+pub whole-table : (table : List ℕ) → EbusTable table → EbusTable (take 256 table)
+whole-table table t = subst EbusTable (sym (take-all 256 table (omega (arith, t .size)))) t
+
+-- ---- two bytes a step, by both tables
+
+module _ {tables : List ℕ} (t : EbusTables tables) where
+  pub both-long : 512 ≤ length tables
+  both-long = omega (arith, t .two .size, length-drop 256 tables)
+
+  -- sixteen steps are eight tables (t .one) and then eight tables (t .one)
+  twice : (r : ℕ) → r < 256 → getD tables (256 + r) 0 ≡ getD tables (getD tables r 0) 0
+  unfolding ebusAll
+  twice r hr =
+      let first : ebusAll r (replicate 8 0) ≡ getD tables r 0 = sym (t .one .entry r hr) ∙ low tables (t .one) r hr in
+      let hx = low-lt tables (t .one) r hr in
+      sym (getD-drop 256 tables r 0)
+      ∙ t .two .entry r hr
+      ∙ ap (λ (k : ℕ). ebusAll k (replicate 8 0)) first
+      ∙ sym (t .one .entry (getD tables r 0) hx) ∙ low tables (t .one) (getD tables r 0) hx
+
+  pub high-lt : (r : ℕ) → r < 256 → getD tables (256 + r) 0 < 256
+  high-lt r hr = subst (λ (x : ℕ). x < 256) (sym (twice r hr)) (low-lt tables (t .one) (getD tables r 0) (low-lt tables (t .one) r hr))
+
   module _ (r a b : ℕ) (hr : r < 256) (ha : a < 256) (hb : b < 256) where
     -- the table is linear over xor
     both : getD tables (bitXor (getD tables r 0) a) 0 ≡ bitXor (getD tables (256 + r) 0) (getD tables a 0)
     both =
         let x = getD tables r 0 in
-        let hx : x < 256 = low-lt r hr in
-        sym (eight (bitXor x a) (xor-lt 8 x a hx ha))
+        let hx : x < 256 = low-lt tables (t .one) r hr in
+        sym (eight tables (t .one) (bitXor x a) (xor-lt 8 x a hx ha))
         ∙ steps-xor left 8 ebusPolynomial (lit< tt) 8 x a hx ha
-        ∙ ap₂ bitXor (eight x hx ∙ sym (twice r hr)) (eight a ha)
+        ∙ ap₂ bitXor (eight tables (t .one) x hx ∙ sym (twice r hr)) (eight tables (t .one) a ha)
 
     pub two-lt : bitXor (getD tables (256 + r) 0) (bitXor (getD tables a 0) b) < 256
-    two-lt = xor-lt 8 _ _ (high-lt r hr) (one-lt a b ha hb)
+    two-lt = xor-lt 8 _ _ (high-lt r hr) (one-lt tables (t .one) a b ha hb)
 
     pub two-bytes : (rest : List ℕ) → ebusBytes r (a ∷ b ∷ rest) ≡ ebusBytes (bitXor (getD tables (256 + r) 0) (bitXor (getD tables a 0) b)) rest
     two-bytes rest =
-        one-byte r a hr ha (b ∷ rest)
-        ∙ one-byte (bitXor (getD tables r 0) a) b (one-lt r a hr ha) hb rest
+        one-byte tables (t .one) r a hr ha (b ∷ rest)
+        ∙ one-byte tables (t .one) (bitXor (getD tables r 0) a) b (one-lt tables (t .one) r a hr ha) hb rest
         ∙ ap (λ (x : ℕ). ebusBytes x rest) (ap (λ (x : ℕ). bitXor x b) both ∙ xor-assoc (getD tables (256 + r) 0) (getD tables a 0) b)
 
 -- ---- raw bytes, in which escapes are expanded already, by any two tables
@@ -173,7 +166,7 @@ part-bytes raw from n each = first-bytes (drop from raw) n (λ (i : ℕ). subst 
 by-register : {tables : List ℕ} → EbusTables tables → (raw : List ℕ) (r : ℕ) → r < 256 → Bytes raw → checkFrom tables r raw ≡ ebusBytes r raw
 unfolding checkFrom ebusBytes
 by-register t [] r hr each = refl
-by-register t (b ∷ []) r hr each = sym (one-byte t r b hr (each 0) [])
+by-register {tables} t (b ∷ []) r hr each = sym (one-byte tables (t .one) r b hr (each 0) [])
 by-register {tables} t (a ∷ b ∷ rest) r hr each =
     by-register t rest (bitXor (getD tables (256 + r) 0) (bitXor (getD tables a 0) b)) (two-lt t r a b hr (each 0) (each 1)) (λ (i : ℕ). each (suc (suc i)))
     ∙ sym (two-bytes t r a b hr (each 0) (each 1) rest)

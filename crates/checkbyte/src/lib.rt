@@ -13,11 +13,13 @@ use table::EBUS_TABLE;
 use tables::EBUS_TABLES;
 ghost use mathlib.Core.Path.{_≡_};
 ghost use mathlib.Core.Bool.{true};
-ghost use Prim.Native.Nat.{_<_};
-ghost use lib.ListN.{length, getD};
-ghost use Rattle.escapes.specs.Escape.{esc, syn};
-ghost use Rattle.checkbyte.specs.Check.{ebusCheck};
+ghost use mathlib.Core.List.{List, _++_};
+ghost use Prim.Native.Nat.{ℕ, _+_, _-_, _≤_, _<_};
+ghost use lib.ListN.{take};
+ghost use Rattle.escapes.specs.Escape.{escaped};
+ghost use Rattle.checkbyte.specs.Check.{ebusBytes, ebusCheck};
 ghost use Rattle.checkbyte.specs.BitByBit.{EbusTable, EbusTables, checkBy};
+ghost use Rattle.checkbyte.specs.Inner.{PlainAt};
 
 // The table: at every entry, eight steps of the bit-by-bit rule.
 fn ebus_table() -> [u8; 256]
@@ -46,38 +48,31 @@ pub fn ebus_check(logical: &[u8]) -> u8
     ensures { λ r. ⌜ r ≡ ebusCheck (now (logical .entry)) ⌝ }
 {
     if logical.len() < PAIRS_FROM {
-        return by_bytes(logical);
+        let table = ebus_table();
+        return check_by(&table, false, logical);
     }
-    by_pairs(logical)
+    let tables = ebus_tables();
+    check_by(&tables, true, logical)
 }
 
-// The same, one byte a step.
-fn by_bytes(logical: &[u8]) -> u8
-    ensures { λ r. ⌜ r ≡ ebusCheck (now (logical .entry)) ⌝ }
+// The running value once a byte has entered, escaped, by the table that the first 256 entries are.
+fn entered(table: &[u8], running: usize, byte: u8) -> usize
+    requires { ⌜ EbusTable (take 256 (now table)) × (256 ≤ running) × (running < 512) ⌝ }
+    ensures { λ r. ⌜ (256 ≤ r) × (r < 512) × ((rest : List ℕ) → ebusBytes (running - 256) (escaped byte ++ rest) ≡ ebusBytes (r - 256) rest) ⌝ }
 {
-    let table = ebus_table();
-    let mut running: usize = ABOVE;
-    let mut i = 0;
-    while i < logical.len() {
-        let byte = logical[i];
-        let at = running - ABOVE;
-        i += 1;
-        match byte {
-            ESC | SYN => {
-                let second = (table[at] ^ ESC) as usize;
-                running = (table[second] as usize) ^ (ABOVE + (byte - ESC) as usize);
-            }
-            _ => {
-                running = (table[at] as usize) ^ (ABOVE + byte as usize);
-            }
+    let at = running - ABOVE;
+    match byte {
+        ESC | SYN => {
+            let second = (table[at] ^ ESC) as usize;
+            (table[second] as usize) ^ (ABOVE + (byte - ESC) as usize)
         }
+        _ => (table[at] as usize) ^ (ABOVE + byte as usize),
     }
-    (running - ABOVE) as u8
 }
 
 // Whether a byte stands at this place that goes out as it is.
 fn plain_at(logical: &[u8], i: usize) -> bool
-    ensures { λ r. ⌜ (r ≡ true → (i < length (now (logical .entry))) × (getD (now (logical .entry)) i 0 ≡ esc → ⊥) × (getD (now (logical .entry)) i 0 ≡ syn → ⊥)) ⌝ }
+    ensures { λ r. ⌜ (r ≡ true → PlainAt (now (logical .entry)) i) ⌝ }
 {
     if logical.len() <= i {
         return false;
@@ -89,32 +84,35 @@ fn plain_at(logical: &[u8], i: usize) -> bool
     byte != SYN
 }
 
-// The same, two bytes a step where neither is escaped.
-fn by_pairs(logical: &[u8]) -> u8
+// Whether two such bytes stand there.
+fn pair_at(logical: &[u8], i: usize) -> bool
+    ensures { λ r. ⌜ (r ≡ true → PlainAt (now (logical .entry)) i × PlainAt (now (logical .entry)) (i + 1)) ⌝ }
+{
+    if plain_at(logical, i) {
+        return plain_at(logical, i + 1);
+    }
+    false
+}
+
+// The check by the table, one byte a step; with `pairs` by both tables, two bytes a step where neither
+// is escaped.
+fn check_by(table: &[u8], pairs: bool, logical: &[u8]) -> u8
+    requires { ⌜ EbusTable (take 256 (now table)) × (pairs ≡ true → EbusTables (now table)) ⌝ }
     ensures { λ r. ⌜ r ≡ ebusCheck (now (logical .entry)) ⌝ }
 {
-    let tables = ebus_tables();
     let mut running = ABOVE;
     let mut i = 0;
     while i < logical.len() {
-        let byte = logical[i];
-        let at = running - ABOVE;
-        i += 1;
-        match byte {
-            ESC | SYN => {
-                let second = (tables[at] ^ ESC) as usize;
-                running = (tables[second] as usize) ^ (ABOVE + (byte - ESC) as usize);
-            }
-            _ => {
-                if plain_at(logical, i) {
-                    let both = tables[byte as usize] ^ logical[i];
-                    running = (tables[running] as usize) ^ (ABOVE + both as usize);
-                    i += 1;
-                } else {
-                    running = (tables[at] as usize) ^ (ABOVE + byte as usize);
-                }
+        if pairs {
+            if pair_at(logical, i) {
+                let both = table[logical[i] as usize] ^ logical[i + 1];
+                running = (table[running] as usize) ^ (ABOVE + both as usize);
+                i += 2;
+                continue;
             }
         }
+        running = entered(table, running, logical[i]);
+        i += 1;
     }
     (running - ABOVE) as u8
 }

@@ -1,6 +1,6 @@
 // The table of eight steps of the eBUS check. Entry k is what eight steps of the register make of k at
 // the end that falls out, the high end of 8 bits that move left. `ebus_table` promises it of every
-// entry.
+// entry. It is also the first half of `EBUS_TABLES`: a table alone is half as much to put on the stack.
 
 // eBUS: to the left, polynomial 9B.
 pub(crate) const EBUS_TABLE: [u8; 256] = [

@@ -25,19 +25,19 @@ special b low high = ⊎-elim (λ e. inl e) (λ no. inr (omega (arith, no))) (sa
 
 -- the bytes from i on: the byte at i, and the bytes from i + 1 on
 module _ (logical : List ℕ) (i : ℕ) (h : i < length logical) where
-  next : expanded (drop i logical) ≡ escaped (getD logical i 0) ++ expanded (drop (i + 1) logical)
+  pub expanded-next : expanded (drop i logical) ≡ escaped (getD logical i 0) ++ expanded (drop (i + 1) logical)
   unfolding expanded
-  next = ap expanded (drop-next logical i h)
+  expanded-next = ap expanded (drop-next logical i h)
 
   pub expanded-plain : (getD logical i 0 ≡ esc → ⊥) → (getD logical i 0 ≡ syn → ⊥)
       → expanded (drop i logical) ≡ getD logical i 0 ∷ expanded (drop (i + 1) logical)
   expanded-plain no-esc no-syn =
-      next ∙ ap (λ (l : List ℕ). l ++ expanded (drop (i + 1) logical)) (escaped-plain (getD logical i 0) no-esc no-syn)
+      expanded-next ∙ ap (λ (l : List ℕ). l ++ expanded (drop (i + 1) logical)) (escaped-plain (getD logical i 0) no-esc no-syn)
 
   pub expanded-special : (getD logical i 0 ≡ esc) ⊎ (getD logical i 0 ≡ syn)
       → expanded (drop i logical) ≡ esc ∷ (getD logical i 0 - esc) ∷ expanded (drop (i + 1) logical)
   expanded-special which =
-      next ∙ ap (λ (l : List ℕ). l ++ expanded (drop (i + 1) logical)) (escaped-special (getD logical i 0) which)
+      expanded-next ∙ ap (λ (l : List ℕ). l ++ expanded (drop (i + 1) logical)) (escaped-special (getD logical i 0) which)
 
 pub expanded-append : (a b : List ℕ) → expanded (a ++ b) ≡ expanded a ++ expanded b
 unfolding expanded

@@ -50,8 +50,9 @@ cast-running-2 c =
     let raw = c .before .before .before .before .before .before .before .args .raw .now in
     let tables = c .before .before .before .before .before .before .before .args .tables .now in
     let first : getD tables (getD raw (l .i) 0) 0 < 256 = omega (arith, c .before .before .shared-slice-known2 .given (getD raw (l .i) 0)) in
-    let second : getD raw (l .i + 1) 0 < 256 = omega (arith, c .before .before .before .shared-slice-known .given (l .i + 1)) in
-    omega (arith, xor-lt 8 (getD tables (getD raw (l .i) 0) 0) (getD raw (l .i + 1) 0) first second)
+    let byte : (k : ℕ) → getD raw k 0 < 256 = λ k. omega (arith, c .before .before .before .shared-slice-known .given k) in
+    let x = getD tables (getD raw (l .i) 0) 0 in
+    omega (arith, xor-lt 8 x (getD raw (l .i + 1) 0) first (byte (l .i + 1)), xor-lt 8 x (getD raw (l .i + 0) 0) first (byte (l .i + 0)))
 
 add-running : tie.Need-add-running Inv-loop μ-loop
 add-running c =
@@ -59,8 +60,9 @@ add-running c =
     let raw = c .before .before .before .before .before .before .before .args .raw .now in
     let tables = c .before .before .before .before .before .before .before .args .tables .now in
     let first : getD tables (getD raw (l .i) 0) 0 < 256 = omega (arith, c .before .before .shared-slice-known2 .given (getD raw (l .i) 0)) in
-    let second : getD raw (l .i + 1) 0 < 256 = omega (arith, c .before .before .before .shared-slice-known .given (l .i + 1)) in
-    omega (arith, xor-lt 8 (getD tables (getD raw (l .i) 0) 0) (getD raw (l .i + 1) 0) first second)
+    let byte : (k : ℕ) → getD raw k 0 < 256 = λ k. omega (arith, c .before .before .before .shared-slice-known .given k) in
+    let x = getD tables (getD raw (l .i) 0) 0 in
+    omega (arith, xor-lt 8 x (getD raw (l .i + 1) 0) first (byte (l .i + 1)), xor-lt 8 x (getD raw (l .i + 0) 0) first (byte (l .i + 0)))
 
 add-i : tie.Need-add-i Inv-loop μ-loop
 add-i c = omega arith
