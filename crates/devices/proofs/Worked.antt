@@ -1,4 +1,4 @@
--- W12, W13 and W14 of document 01, of the definitions. The addresses and what the two lists held before are any.
+-- The W rows of scans in docs/RULES.md, W12 to W14, of the definitions. The addresses and what the two lists held before are any.
 -- Assumes nothing.
 use mathlib.Core.Path.{_≡_, refl}
 use mathlib.Core.List.{List, [], _∷_}

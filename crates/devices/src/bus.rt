@@ -4,6 +4,7 @@ use arbitration::contest;
 use requests::Request;
 use table::MOST_DEVICES;
 use turns::Answer;
+use turns::WINDOWS;
 ghost use mathlib.Core.Path.{_≡_};
 ghost use mathlib.Core.Bool.{true};
 ghost use Prim.Native.Nat.{_≤_, _<_};
@@ -18,9 +19,6 @@ ghost use Rattle.turns.specs.Inner.{GivesTurn};
 
 // The mark bits of a scanned device, above its serial.
 const SCANNED: u32 = 0xF000_0000;
-
-// A contest has so many windows: one for each bit of a key.
-const WINDOWS: u32 = 32;
 
 // The key of a device.
 fn key(mark: u8, serial: u32) -> u32

@@ -32,7 +32,7 @@ pub(crate) fn modbus_case(text: &[u8], at: usize) -> Checked {
     }
 }
 
-// Document 01's W1 to W4 and document 004's example, whose check byte is 42.
+// W1 to W4 of docs/RULES.md, and the example of the eBUS overview whose check byte is 42.
 pub(crate) fn ebus_published() -> Tally {
     cases(
         Lines::EbusChecks,
@@ -60,8 +60,8 @@ pub(crate) fn ebus_alone() -> Tally {
     t
 }
 
-// Document 000's whole frames, but for the 0x18 example, whose printed check is wrong; and the
-// check value that catalogues of CRCs give for Modbus, of the digits 1 to 9.
+// The whole frames that the Fast Modbus extension prints, but for the 0x18 example, whose check there
+// is wrong; and the check value that catalogues of CRCs give for Modbus, of the digits 1 to 9.
 pub(crate) fn modbus_published() -> Tally {
     cases(
         Lines::ModbusChecks,

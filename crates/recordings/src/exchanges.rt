@@ -122,8 +122,8 @@ pub(crate) fn case(text: &[u8], at: usize) -> Checked {
     accepted(run, due, text, d.next)
 }
 
-// W7 and W8, document 004's example and frames, SYN in a wait, telegrams with A9 and AA, and the
-// broadcast with both that ebusd is tested with.
+// W7 and W8 of docs/RULES.md, the example and the frames of the eBUS overview, SYN in a wait, telegrams
+// with A9 and AA, and the broadcast with both that ebusd is tested with.
 pub(crate) fn published() -> Tally {
     cases(
         Lines::Exchanges,

@@ -38,7 +38,7 @@ pub(crate) fn case(text: &[u8], at: usize) -> Checked {
     }
 }
 
-// Document 000's answers as it prints them, each behind nine FF.
+// The answers of the Fast Modbus extension as it prints them, each behind nine FF.
 pub(crate) fn published() -> Tally {
     cases(
         Lines::Answers,

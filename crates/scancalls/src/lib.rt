@@ -5,15 +5,13 @@ use scanboundary::MoorScanned;
 use scanboundary::decided_for_c;
 use scanboundary::response_for_c;
 use scanboundary::scanned_for_c;
+use turns::WINDOWS;
 ghost use mathlib.Core.Path.{_≡_};
 ghost use Rattle.arbitration.specs.Contest.{decided};
 ghost use Rattle.table.specs.Table.{columns, valid};
 ghost use Rattle.devices.specs.Calls.{Gives, startCall, continueCall, offerCall};
 ghost use Rattle.devices.specs.WholeScan.{GivesScan, scanCall};
 ghost use Rattle.scanboundary.specs.ForC.{decidedForC, responseForC, scannedForC};
-
-// A key of a scan has a window for each of its bits.
-const WINDOWS: u32 = 32;
 
 // Whether the three columns are a valid table.
 #[no_mangle]
