@@ -125,15 +125,15 @@ pub fn wire_check(tables: &[u8; 512], raw: &[u8]) -> u8
 {
     let entries = &tables[..];
     let mut running: usize = 0x100;
-    let mut i = 0;
-    while 1 < raw.len() - i {
-        let both = entries[raw[i] as usize] ^ raw[i + 1];
+    let mut second = 1;
+    while second < raw.len() {
+        let both = entries[raw[second - 1] as usize] ^ raw[second];
         running = (entries[running] as usize) ^ (ABOVE + both as usize);
-        i += 2;
+        second += 2;
     }
     let at = running - ABOVE;
-    if i < raw.len() {
-        return entries[at] ^ raw[i];
+    if second == raw.len() {
+        return entries[at] ^ raw[second - 1];
     }
     at as u8
 }

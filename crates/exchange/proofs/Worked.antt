@@ -11,7 +11,8 @@ use Rattle.addresses.specs.declared.ExchangeKind.the-variants.{InitiatorTarget}
 use Rattle.addresses.specs.Address.{initiatorNibble, initiator, reserved, kindOf}
 use Rattle.checkbyte.specs.Check.{ebusBytes, ebusCheck}
 use Rattle.telegram.specs.Telegram.{commandRoom, replyRoom, checkRight, fieldAt, faultOf, collected, telegramAt}
-use Rattle.exchange.specs.Exchange.{accepted, rejected, acknowledgeAt, settled, unanswered, attemptAt, triesAt, synAt, exchangeAt, exchange, judged}
+use Rattle.attempts.specs.Attempt.{acknowledgeAt, unanswered, endingAt, attemptAt}
+use Rattle.exchange.specs.Exchange.{accepted, rejected, triesAt, synAt, exchangeAt, exchange, judged}
 use Rattle.exchange.proofs.Buffers.{room-enough}
 
 abbrev pub command : List ℕ
@@ -26,12 +27,12 @@ answeredBy b = 0x10 ∷ 0x08 ∷ 0xB5 ∷ 0x11 ∷ 0x01 ∷ 0x01 ∷ 0x89 ∷ b 
 
 -- W7 10 08 B5 11 01 01 89 00 01 2A B1 00 AA: accepted, one attempt each, 13 bytes read (its data: replies/proofs/Worked.antt)
 pub w7 : exchange (answeredBy 0x00) ≡ accepted InitiatorTarget 1 1 13 command reply []
-unfolding ebusCheck ebusBytes enter step bits escaped expanded initiatorNibble initiator reserved kindOf escapeAt logicalAt checkRight fieldAt faultOf collected telegramAt acknowledgeAt settled unanswered attemptAt triesAt synAt exchangeAt
+unfolding ebusCheck ebusBytes enter step bits escaped expanded initiatorNibble initiator reserved kindOf escapeAt logicalAt checkRight fieldAt faultOf collected telegramAt acknowledgeAt unanswered endingAt attemptAt triesAt synAt exchangeAt
 w7 = refl
 
 -- W8 the same with 55 for the first 00: number 12 at place 7
 pub w8 : exchange (answeredBy 0x55) ≡ rejected (at-place busError 7)
-unfolding ebusCheck ebusBytes enter step bits escaped expanded initiatorNibble initiator reserved kindOf escapeAt logicalAt checkRight fieldAt faultOf collected telegramAt acknowledgeAt settled unanswered attemptAt triesAt synAt exchangeAt
+unfolding ebusCheck ebusBytes enter step bits escaped expanded initiatorNibble initiator reserved kindOf escapeAt logicalAt checkRight fieldAt faultOf collected telegramAt acknowledgeAt unanswered endingAt attemptAt triesAt synAt exchangeAt
 w8 = refl
 
 -- so judged, where the buffers are long enough

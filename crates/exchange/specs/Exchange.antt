@@ -1,4 +1,4 @@
--- Judging a run, rules E12 to E16. Every position is absolute, so places are positions and the bytes read are the last
+-- Judging a run, rules E12 to E16, from its attempts on (attempts/specs/Attempt.antt). Every position is absolute, so places are positions and the bytes read are the last
 -- position. What did not happen, and every refusal, has no bytes.
 -- Assumes nothing.
 use Prim.Native.Nat.{ℕ, _+_}
@@ -7,72 +7,15 @@ use mathlib.Core.List.{List, []}
 use lib.Dec.{eqb, ltb, leb}
 use lib.ListN.{length, getD}
 use Rattle.lists.specs.Choice.{pick}
-use Rattle.refusal.specs.Number.{outputShort, synEarly, checkWrong, commandNacked, replyNacked, busError, at-place}
+use Rattle.refusal.specs.Number.{outputShort, commandNacked, replyNacked, busError, at-place}
 use Rattle.refusal.specs.declared.Refusal.{Refusal}
 use Rattle.escapes.specs.Escape.{syn}
 use Rattle.escapes.specs.Logical.{runOver}
 use Rattle.addresses.specs.declared.ExchangeKind.{ExchangeKind}
 use Rattle.addresses.specs.declared.ExchangeKind.the-variants.{Broadcast, InitiatorInitiator, InitiatorTarget}
 use Rattle.addresses.specs.Address.{kindOf}
-use Rattle.telegram.specs.Telegram.{commandRoom, replyRoom, destinationOf, checkRight, Telegram, read, unread, telegramAt}
-
--- the two acknowledge bytes
-abbrev pub ack : ℕ
-ack = 0x00
-
-abbrev pub nack : ℕ
-nack = 0xFF
-
--- ---- the acknowledge byte of a command, and that of a reply, rule E13
-
--- 00 with the position behind it, FF with its place, or why it is neither: any byte but 00, FF and AA is number 12
-pub data Acknowledge : Type 0 where
-  positive : ℕ → Acknowledge
-  negative : ℕ → Acknowledge
-  invalid : Refusal → Acknowledge
-
-unfoldable pub acknowledgeAt : List ℕ → ℕ → Acknowledge
-acknowledgeAt run at =
-    pick (ltb at (length run))
-    (pick (eqb (getD run at 0) ack) (positive (at + 1))
-    (pick (eqb (getD run at 0) nack) (negative at)
-    (pick (eqb (getD run at 0) syn) (invalid (at-place synEarly at)) (invalid (at-place busError at)))))
-    (invalid (runOver run))
-
--- ---- an attempt at a command, or else at a reply
-
--- taken with the position behind it, NACKed with the place of the FF, or refused
-pub data Attempt : Type 0 where
-  taken : List ℕ → ℕ → Attempt
-  nacked : List ℕ → ℕ → Attempt
-  failed : Refusal → Attempt
-
--- rule E15: the check byte is judged once the attempt is accepted; a wrong one is number 9, at the check byte
-unfoldable pub settled : List ℕ → ℕ → ℕ → Attempt
-settled telegram checkPlace next = pick (checkRight telegram) (taken telegram next) (failed (at-place checkWrong checkPlace))
-
--- before an FF it does not matter, and a right attempt may be NACKed too
-abbrev pub onAcknowledge : List ℕ → ℕ → Acknowledge → Attempt
-onAcknowledge telegram checkPlace (positive next) = settled telegram checkPlace next
-onAcknowledge telegram checkPlace (negative place) = nacked telegram place
-onAcknowledge telegram checkPlace (invalid why) = failed why
-
--- a broadcast command is not acknowledged
-abbrev pub toAll : ExchangeKind → Bool
-toAll Broadcast = true
-toAll InitiatorInitiator = false
-toAll InitiatorTarget = false
-
-unfoldable pub unanswered : Bool → List ℕ → Bool
-unanswered command telegram = command && toAll (kindOf (destinationOf telegram))
-
-abbrev pub onTelegram : Bool → List ℕ → Telegram → Attempt
-onTelegram command run (read telegram checkPlace next) =
-    pick (unanswered command telegram) (settled telegram checkPlace next) (onAcknowledge telegram checkPlace (acknowledgeAt run next))
-onTelegram command run (unread why) = failed why
-
-unfoldable pub attemptAt : Bool → List ℕ → ℕ → Attempt
-attemptAt command run at = onTelegram command run (telegramAt command run at)
+use Rattle.telegram.specs.Telegram.{commandRoom, replyRoom, destinationOf}
+use Rattle.attempts.specs.Attempt.{Attempt, taken, nacked, failed, attemptAt}
 
 -- ---- one attempt or two
 

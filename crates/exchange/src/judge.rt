@@ -2,8 +2,8 @@
 //
 // The run is read twice: first to judge it, with nothing stored, and once it is accepted to put the
 // telegrams' bytes into the three buffers. So a refusal leaves them as they were.
-use crate::attempt::Tried;
-use crate::attempt::tries_at;
+use crate::tries::Tried;
+use crate::tries::tries_at;
 use crate::wire::copy_logical;
 use addresses::ExchangeKind;
 use addresses::kind;
@@ -26,9 +26,10 @@ ghost use Rattle.escapes.specs.Logical.{logicalsAt};
 ghost use Rattle.addresses.specs.Address.{kindOf};
 ghost use Rattle.checkbyte.specs.BitByBit.{EbusTables};
 ghost use Rattle.telegram.specs.Telegram.{replyRoom};
+ghost use Rattle.attempts.specs.View.{Ready};
 ghost use Rattle.exchange.specs.Exchange.{synAt, rejected, onEnd, onReply, onKind, triesAt, exchangeAt, rooms, judged};
 ghost use Rattle.exchange.specs.View.{answered, Judges};
-ghost use Rattle.exchange.specs.Inner.{Ready, repliesOf};
+ghost use Rattle.exchange.specs.Inner.{repliesOf};
 
 // What a recorded exchange is: its kind, the attempts at command and reply, and the raw bytes read,
 // SYN included; or why it is refused.

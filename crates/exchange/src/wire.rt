@@ -6,7 +6,7 @@ ghost use Prim.Native.Nat.{_≤_};
 ghost use lib.ListN.{length};
 ghost use Rattle.lists.specs.Starting.{starting};
 ghost use Rattle.escapes.specs.Logical.{logicalsAt};
-ghost use Rattle.exchange.specs.Inner.{Ready};
+ghost use Rattle.attempts.specs.View.{Ready};
 
 // Puts n logical bytes that stand at a position at the start of an output that has room for them.
 // Nothing is looked at but A9, since all else was judged before.

@@ -16,7 +16,8 @@ use Rattle.addresses.specs.declared.ExchangeKind.the-variants.{Broadcast, Initi
 use Rattle.addresses.specs.Address.{kindOf}
 use Rattle.telegram.specs.Telegram.{destinationOf, checkRight, Telegram, read, unread, telegramAt}
 use Rattle.telegram.proofs.TelegramOnWire.{stood}
-use Rattle.exchange.specs.Exchange.{ack, nack, Acknowledge, positive, negative, invalid, acknowledgeAt, Attempt, taken, nacked, failed, settled, onAcknowledge, unanswered, onTelegram, attemptAt, Tries, once, twice, neither, onSecond, onFirst, triesAt, End, ended, open-still, synAt, Outcome, accepted, rejected, onEnd, onReply, onKind, onCommand, exchangeAt}
+use Rattle.attempts.specs.Attempt.{ack, nack, Acknowledge, positive, negative, invalid, acknowledgeAt, Ending, acknowledged as answered-with, onAcknowledge, unanswered, onTelegram, endingAt, Attempt, taken, nacked, failed, settledBy, attemptAt}
+use Rattle.exchange.specs.Exchange.{Tries, once, twice, neither, onSecond, onFirst, triesAt, End, ended, open-still, synAt, Outcome, accepted, rejected, onEnd, onReply, onKind, onCommand, exchangeAt}
 use Rattle.rulebook.specs.Rules.{Form, ToOne, Accepted, alone, acknowledged, Attempts, at-once, repeated, OnWire, broadcast, initiators, target}
 use Rattle.rulebook.proofs.WholeForms.{form-of}
 use Rattle.rulebook.proofs.OwnWords.{check-right, to-all, to-one}
@@ -81,32 +82,35 @@ AttemptSound command run at (taken telegram next) = TakenSound command run at te
 AttemptSound command run at (nacked telegram place) = NackedSound command run at telegram place
 AttemptSound command run at (failed why) = Unit {0}
 
+-- what was sent, by the eBUS check
+abbrev pub settled : Ending → Attempt
+settled e = settledBy (λ telegram checkPlace. checkRight telegram) e
+
 settled-sound : (command : Bool) (run : List ℕ) (at : ℕ) (telegram raw : List ℕ) (checkPlace next : ℕ)
-    → (checkRight telegram ≡ true → Accepted command telegram raw) → Reads run at raw next → AttemptSound command run at (settled telegram checkPlace next)
-unfolding settled
+    → (checkRight telegram ≡ true → Accepted command telegram raw) → Reads run at raw next → AttemptSound command run at (settled (answered-with telegram checkPlace next))
 settled-sound command run at telegram raw checkPlace next said reads =
     pick-cases (AttemptSound command run at) (checkRight telegram) _ _ (λ right. record { raw = raw; said = said right; reads = reads }) (λ _. tt)
 
 by-acknowledge : (command : Bool) (run : List ℕ) (at : ℕ) (telegram : List ℕ) (checkPlace next : ℕ) → Form command telegram → unanswered command telegram ≡ false
-    → Reads run at (expanded telegram) next → (a : Acknowledge) → AcknowledgeSound run next a → AttemptSound command run at (onAcknowledge telegram checkPlace a)
+    → Reads run at (expanded telegram) next → (a : Acknowledge) → AcknowledgeSound run next a → AttemptSound command run at (settled (onAcknowledge telegram checkPlace a))
 by-acknowledge command run at telegram checkPlace next form due reads (positive after) s =
     settled-sound command run at telegram (expanded telegram ++ ack ∷ []) checkPlace after (λ right. acknowledged form (check-right telegram right) (to-one command telegram due)) (reads-both run at (expanded telegram) next (ack ∷ []) after reads s)
 by-acknowledge command run at telegram checkPlace next form due reads (negative place) s =
     record { form = form; answered = to-one command telegram due; reads = reads-both run at (expanded telegram) next (nack ∷ []) (place + 1) reads s }
 by-acknowledge command run at telegram checkPlace next form due reads (invalid why) s = tt
 
-by-telegram : (command : Bool) (run : List ℕ) (at : ℕ) (t : Telegram) → telegramAt command run at ≡ t → AttemptSound command run at (onTelegram command run t)
+by-telegram : (command : Bool) (run : List ℕ) (at : ℕ) (t : Telegram) → telegramAt command run at ≡ t → AttemptSound command run at (settled (onTelegram command run t))
 by-telegram command run at (unread why) e = tt
 by-telegram command run at (read telegram checkPlace next) e =
     let s = stood command run at telegram checkPlace next e in
     let form = form-of command telegram (s .whole) in
     let reads : Reads run at (expanded telegram) next = record { wire = s .wire; ends = s .ends } in
-    pick-cases (AttemptSound command run at) (unanswered command telegram) _ _
+    pick-cases (λ x. AttemptSound command run at (settled x)) (unanswered command telegram) _ _
     (λ none. settled-sound command run at telegram (expanded telegram) checkPlace next (λ right. alone form (check-right telegram right) (to-all command telegram none)) reads)
     (λ due. by-acknowledge command run at telegram checkPlace next form due reads (acknowledgeAt run next) (acknowledge-sound run next))
 
 attempt-sound : (command : Bool) (run : List ℕ) (at : ℕ) → AttemptSound command run at (attemptAt command run at)
-unfolding attemptAt
+unfolding attemptAt endingAt
 attempt-sound command run at = by-telegram command run at (telegramAt command run at) refl
 
 -- ---- one attempt or two

@@ -3,82 +3,27 @@
 -- Assumes nothing.
 use mathlib.Core.Path.{_≡_, refl, sym, ap, _∙_, subst}
 use mathlib.Core.Bool.{Bool, true, false}
-use mathlib.Core.List.{List, [], _∷_, _++_}
+use mathlib.Core.List.{List, [], _++_}
 use mathlib.Core.Logic.{_⊎_, inl, inr, ⊎-elim}
-use Prim.Native.Nat.{ℕ, zero, suc, _+_}
+use Prim.Native.Nat.{ℕ, _+_}
 use native.Mathlib.Omega.{arith}
-use lib.Dec.{eqb, leb}
-use lib.ListN.{length, getD}
+use lib.Dec.{eqb}
+use lib.ListN.{length}
 use Rattle.lists.specs.Choice.{pick}
-use Rattle.refusal.specs.Number.{outputShort, runEnded, synEarly, busError, at-place}
+use Rattle.refusal.specs.Number.{outputShort, runEnded, busError, at-place}
 use Rattle.lists.proofs.Cases.{pick-cases}
 use Rattle.escapes.specs.Escape.{syn}
-use Rattle.escapes.specs.declared.Logical.{Logical}
-use Rattle.escapes.specs.declared.Logical.the-variants.{Byte, Refused}
-use Rattle.escapes.specs.Logical.{runOver, logicalAt}
-use Rattle.escapes.proofs.LongerRun.{Stays, OtherRefusal, OtherByte, stays-same, stays-on, stays-pick, stays-byte, logical-stays}
+use Rattle.escapes.specs.Logical.{runOver}
+use Rattle.escapes.proofs.LongerRun.{Stays, OtherRefusal, stays-same, stays-on, stays-pick, stays-byte}
 use Rattle.addresses.specs.declared.ExchangeKind.{ExchangeKind}
 use Rattle.addresses.specs.declared.ExchangeKind.the-variants.{Broadcast, InitiatorInitiator, InitiatorTarget}
-use Rattle.addresses.specs.Address.{initiator, reserved, kindOf}
-use Rattle.telegram.specs.Telegram.{headOf, lengthPlace, destinationOf, longest, checkRight, Field, SRC, DST, LEN, unjudged, fieldAt, faultOf, Telegram, read, unread, onByte, collected, onHead, telegramAt}
-use Rattle.exchange.specs.Exchange.{ack, nack, Acknowledge, positive, negative, invalid, acknowledgeAt, Attempt, taken, nacked, failed, settled, onAcknowledge, unanswered, onTelegram, attemptAt, Tries, once, twice, neither, nackedTwice, onSecond, onFirst, triesAt, End, ended, open-still, synAt, Outcome, accepted, rejected, onEnd, onReply, onKind, onCommand, exchangeAt, exchange, rooms, judged}
-
--- ---- a telegram
-
-abbrev OtherTelegram : Telegram → Type 0
-OtherTelegram (read telegram last next) = Unit {0}
-OtherTelegram (unread why) = OtherRefusal why
-
--- what is wrong with a field is 6, 7 or 8
-fault-other : (field : Field) (b : ℕ) → faultOf field b ≡ runEnded → ⊥
-unfolding faultOf
-fault-other SRC b = pick-cases (λ k. k ≡ runEnded → ⊥) (initiator b) _ _ (λ _ e. omega arith) (λ _ e. omega arith)
-fault-other DST b = pick-cases (λ k. k ≡ runEnded → ⊥) (reserved b) _ _ (λ _ e. omega arith) (λ _ e. omega arith)
-fault-other LEN b = pick-cases (λ k. k ≡ runEnded → ⊥) (leb b longest) _ _ (λ _ e. omega arith) (λ _ e. omega arith)
-fault-other unjudged b = λ e. omega arith
-
-by-byte : (run : List ℕ) (field : Field) (at : ℕ) (rest rest′ : ℕ → ℕ → Telegram)
-    → ((b next : ℕ) → Stays OtherTelegram (unread (runOver run)) (rest b next) (rest′ b next))
-    → (l : Logical) → OtherByte l → Stays OtherTelegram (unread (runOver run)) (onByte field at l rest) (onByte field at l rest′)
-by-byte run field at rest rest′ each (Byte b next) h =
-    let wrong = unread (at-place (faultOf field b) at) in
-    stays-pick OtherTelegram (unread (runOver run)) (rest b next) (rest′ b next) wrong wrong (eqb (faultOf field b) 0) (each b next)
-    (stays-same OtherTelegram (unread (runOver run)) wrong (fault-other field b))
-by-byte run field at rest rest′ each (Refused why) h = stays-same OtherTelegram (unread (runOver run)) (unread why) h
-
-module _ (run more : List ℕ) where
-  collected-stays : (command : Bool) (n : ℕ) (soFar : List ℕ) (last at : ℕ)
-      → Stays OtherTelegram (unread (runOver run)) (collected command run n soFar last at) (collected command (run ++ more) n soFar last at)
-  unfolding collected
-  collected-stays command zero soFar last at = stays-same OtherTelegram (unread (runOver run)) (read soFar last at) tt
-  collected-stays command (suc n) soFar last at =
-      let rest : List ℕ → ℕ → ℕ → Telegram = λ r b next. collected command r n (soFar ++ b ∷ []) at next in
-      stays-on OtherByte OtherTelegram (λ l. onByte (fieldAt command (length soFar)) at l (rest run)) (λ l. onByte (fieldAt command (length soFar)) at l (rest (run ++ more)))
-      (Refused (runOver run)) (logicalAt run at) (logicalAt (run ++ more) at)
-      (by-byte run (fieldAt command (length soFar)) at (rest run) (rest (run ++ more)) (λ b next. collected-stays command n (soFar ++ b ∷ []) at next))
-      (logical-stays run more at)
-
-  by-head : (command : Bool) (t : Telegram) → OtherTelegram t → Stays OtherTelegram (unread (runOver run)) (onHead command run t) (onHead command (run ++ more) t)
-  by-head command (read soFar last next) h = collected-stays command (getD soFar (lengthPlace command) 0 + 1) soFar last next
-  by-head command (unread why) h = stays-same OtherTelegram (unread (runOver run)) (unread why) h
-
-  telegram-stays : (command : Bool) (at : ℕ) → Stays OtherTelegram (unread (runOver run)) (telegramAt command run at) (telegramAt command (run ++ more) at)
-  unfolding telegramAt
-  telegram-stays command at =
-      stays-on OtherTelegram OtherTelegram (onHead command run) (onHead command (run ++ more)) (unread (runOver run))
-      (collected command run (headOf command) [] at at) (collected command (run ++ more) (headOf command) [] at at) (by-head command) (collected-stays command (headOf command) [] at at)
+use Rattle.addresses.specs.Address.{kindOf}
+use Rattle.telegram.specs.Telegram.{destinationOf}
+use Rattle.attempts.specs.Attempt.{Attempt, taken, nacked, failed, attemptAt}
+use Rattle.attempts.proofs.LongerRun.{OtherAttempt, attempt-stays}
+use Rattle.exchange.specs.Exchange.{Tries, once, twice, neither, nackedTwice, onSecond, onFirst, triesAt, End, ended, open-still, synAt, Outcome, accepted, rejected, onEnd, onReply, onKind, onCommand, exchangeAt, exchange, rooms, judged}
 
 -- ---- no refusal with number 3, for each kind of answer
-
-abbrev OtherAcknowledge : Acknowledge → Type 0
-OtherAcknowledge (positive next) = Unit {0}
-OtherAcknowledge (negative place) = Unit {0}
-OtherAcknowledge (invalid why) = OtherRefusal why
-
-abbrev OtherAttempt : Attempt → Type 0
-OtherAttempt (taken telegram next) = Unit {0}
-OtherAttempt (nacked telegram place) = Unit {0}
-OtherAttempt (failed why) = OtherRefusal why
 
 abbrev OtherTries : Tries → Type 0
 OtherTries (once telegram next) = Unit {0}
@@ -93,21 +38,12 @@ abbrev pub OtherOutcome : Outcome → Type 0
 OtherOutcome (accepted kind commands replies next command first second) = Unit {0}
 OtherOutcome (rejected why) = OtherRefusal why
 
--- the check byte's refusal is 9, and two NACKs give 10 or 11
-settled-other : (telegram : List ℕ) (checkPlace next : ℕ) → OtherAttempt (settled telegram checkPlace next)
-unfolding settled
-settled-other telegram checkPlace next = pick-cases OtherAttempt (checkRight telegram) _ _ (λ _. tt) (λ _ e. omega arith)
-
+-- two NACKs give 10 or 11
 nacked-other : (command : Bool) (place : ℕ) → OtherRefusal (at-place (nackedTwice command) place)
 nacked-other true place e = omega arith
 nacked-other false place e = omega arith
 
 -- the steps that do not look at the run
-
-by-acknowledge : (telegram : List ℕ) (checkPlace : ℕ) (a : Acknowledge) → OtherAcknowledge a → OtherAttempt (onAcknowledge telegram checkPlace a)
-by-acknowledge telegram checkPlace (positive next) h = settled-other telegram checkPlace next
-by-acknowledge telegram checkPlace (negative place) h = tt
-by-acknowledge telegram checkPlace (invalid why) h = h
 
 by-second : (command : Bool) (first : List ℕ) (a : Attempt) → OtherAttempt a → OtherTries (onSecond command first a)
 by-second command first (taken telegram next) h = tt
@@ -120,19 +56,7 @@ by-end kind commands replies command first second (ended next) h = tt
 by-end kind commands replies command first second (open-still why) h = h
 
 module _ (run more : List ℕ) where
-  -- ---- an acknowledge byte, and SYN
-
-  acknowledge-stays : (at : ℕ) → Stays OtherAcknowledge (invalid (runOver run)) (acknowledgeAt run at) (acknowledgeAt (run ++ more) at)
-  unfolding acknowledgeAt
-  acknowledge-stays at =
-      let f : ℕ → Acknowledge =
-      λ b. pick (eqb b ack) (positive (at + 1)) (pick (eqb b nack) (negative at) (pick (eqb b syn) (invalid (at-place synEarly at)) (invalid (at-place busError at)))) in
-      stays-byte OtherAcknowledge run more at (invalid (runOver run)) (invalid (runOver (run ++ more))) f f
-      (λ b.
-      stays-same OtherAcknowledge (invalid (runOver run)) (f b)
-      (pick-cases OtherAcknowledge (eqb b ack) _ _ (λ _. tt)
-      (λ _. pick-cases OtherAcknowledge (eqb b nack) _ _ (λ _. tt)
-      (λ _. pick-cases OtherAcknowledge (eqb b syn) _ _ (λ _ e. omega arith) (λ _ e. omega arith)))))
+  -- ---- SYN
 
   syn-stays : (at : ℕ) → Stays OtherEnd (open-still (runOver run)) (synAt run at) (synAt (run ++ more) at)
   unfolding synAt
@@ -141,24 +65,6 @@ module _ (run more : List ℕ) where
       stays-byte OtherEnd run more at (open-still (runOver run)) (open-still (runOver (run ++ more))) f f
       (λ b. stays-same OtherEnd (open-still (runOver run)) (f b) (pick-cases OtherEnd (eqb b syn) _ _ (λ _. tt) (λ _ e. omega arith)))
 
-  -- ---- an attempt
-
-  by-telegram : (command : Bool) (t : Telegram) → OtherTelegram t
-      → Stays OtherAttempt (failed (runOver run)) (onTelegram command run t) (onTelegram command (run ++ more) t)
-  by-telegram command (read telegram checkPlace next) h =
-      let at-once = settled telegram checkPlace next in
-      stays-pick OtherAttempt (failed (runOver run)) at-once at-once _ _ (unanswered command telegram)
-      (stays-same OtherAttempt (failed (runOver run)) at-once (settled-other telegram checkPlace next))
-      (stays-on OtherAcknowledge OtherAttempt (onAcknowledge telegram checkPlace) (onAcknowledge telegram checkPlace) (invalid (runOver run)) (acknowledgeAt run next) (acknowledgeAt (run ++ more) next)
-      (λ a o. stays-same OtherAttempt (failed (runOver run)) (onAcknowledge telegram checkPlace a) (by-acknowledge telegram checkPlace a o)) (acknowledge-stays next))
-  by-telegram command (unread why) h = stays-same OtherAttempt (failed (runOver run)) (failed why) h
-
-  attempt-stays : (command : Bool) (at : ℕ) → Stays OtherAttempt (failed (runOver run)) (attemptAt command run at) (attemptAt command (run ++ more) at)
-  unfolding attemptAt
-  attempt-stays command at =
-      stays-on OtherTelegram OtherAttempt (onTelegram command run) (onTelegram command (run ++ more)) (unread (runOver run))
-      (telegramAt command run at) (telegramAt command (run ++ more) at) (by-telegram command) (telegram-stays run more command at)
-
   -- ---- one attempt or two
 
   by-first : (command : Bool) (a : Attempt) → OtherAttempt a → Stays OtherTries (neither (runOver run)) (onFirst command run a) (onFirst command (run ++ more) a)
@@ -166,14 +72,14 @@ module _ (run more : List ℕ) where
   by-first command (nacked telegram place) h =
       stays-on OtherAttempt OtherTries (onSecond command telegram) (onSecond command telegram) (failed (runOver run))
       (attemptAt command run (place + 1)) (attemptAt command (run ++ more) (place + 1))
-      (λ a o. stays-same OtherTries (neither (runOver run)) (onSecond command telegram a) (by-second command telegram a o)) (attempt-stays command (place + 1))
+      (λ a o. stays-same OtherTries (neither (runOver run)) (onSecond command telegram a) (by-second command telegram a o)) (attempt-stays run more command (place + 1))
   by-first command (failed why) h = stays-same OtherTries (neither (runOver run)) (neither why) h
 
   tries-stay : (command : Bool) (at : ℕ) → Stays OtherTries (neither (runOver run)) (triesAt command run at) (triesAt command (run ++ more) at)
   unfolding triesAt
   tries-stay command at =
       stays-on OtherAttempt OtherTries (onFirst command run) (onFirst command (run ++ more)) (failed (runOver run))
-      (attemptAt command run at) (attemptAt command (run ++ more) at) (by-first command) (attempt-stays command at)
+      (attemptAt command run at) (attemptAt command (run ++ more) at) (by-first command) (attempt-stays run more command at)
 
   -- ---- the exchange
 

@@ -15,7 +15,7 @@ use Rattle.addresses.specs.declared.ExchangeKind.the-variants.{Broadcast, Initi
 use Rattle.addresses.specs.Address.{initiator, everyone, kindOf}
 use Rattle.checkbyte.specs.Check.{ebusCheck}
 use Rattle.telegram.specs.Telegram.{destinationOf, checkRight}
-use Rattle.exchange.specs.Exchange.{toAll, unanswered}
+use Rattle.attempts.specs.Attempt.{toAll, unanswered}
 use Rattle.rulebook.specs.Rules.{Right, ToAll, ToOne}
 use Rattle.rulebook.proofs.WholeForms.{last-apart}
 

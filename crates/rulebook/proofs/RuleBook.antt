@@ -17,11 +17,12 @@ use Rattle.addresses.specs.declared.ExchangeKind.the-variants.{Broadcast, Initi
 use Rattle.addresses.specs.Address.{kindOf}
 use Rattle.telegram.specs.Telegram.{destinationOf, checkRight, read, telegramAt}
 use Rattle.telegram.proofs.TelegramOnWire.{readable, stood}
-use Rattle.exchange.specs.Exchange.{ack, nack, positive, negative, acknowledgeAt, taken, nacked, failed, settled, onAcknowledge, onTelegram, attemptAt, Tries, once, twice, onSecond, onFirst, triesAt, ended, synAt, accepted, onEnd, onReply, onKind, onCommand, exchangeAt}
+use Rattle.attempts.specs.Attempt.{ack, nack, positive, negative, acknowledgeAt, acknowledged as answered-with, onAcknowledge, onTelegram, endingAt, taken, nacked, failed, attemptAt}
+use Rattle.exchange.specs.Exchange.{Tries, once, twice, onSecond, onFirst, triesAt, ended, synAt, accepted, onEnd, onReply, onKind, onCommand, exchangeAt}
 use Rattle.rulebook.specs.Rules.{Form, ToOne, Accepted, alone, acknowledged, Attempts, at-once, repeated, OnWire, broadcast, initiators, target}
 use Rattle.rulebook.proofs.WholeForms.{whole-of}
 use Rattle.rulebook.proofs.OwnWords.{right-check, all-unanswered, one-answered}
-use Rattle.rulebook.proofs.AcceptedOnWire.{sound}
+use Rattle.rulebook.proofs.AcceptedOnWire.{settled, sound}
 
 -- ---- single bytes that stand at a position
 
@@ -61,22 +62,21 @@ pub record Done (command : Bool) (run : List ℕ) (at : ℕ) (telegram raw rest 
   pub is : attemptAt command run at ≡ taken telegram (at + length raw)
   pub left : drop (at + length raw) run ≡ rest
 
-settled-right : (telegram : List ℕ) (checkPlace next : ℕ) → checkRight telegram ≡ true → settled telegram checkPlace next ≡ taken telegram next
-unfolding settled
+settled-right : (telegram : List ℕ) (checkPlace next : ℕ) → checkRight telegram ≡ true → settled (answered-with telegram checkPlace next) ≡ taken telegram next
 settled-right telegram checkPlace next right = ap (λ b. pick b (taken telegram next) (failed (at-place checkWrong checkPlace))) right
 
 one-more : (at : ℕ) (a : List ℕ) (b : ℕ) → at + length a + 1 ≡ at + length (a ++ b ∷ [])
 one-more at a b = omega (arith, length-append a (b ∷ []))
 
 done : (command : Bool) (run : List ℕ) (at : ℕ) (telegram raw rest : List ℕ) → Accepted command telegram raw → drop at run ≡ raw ++ rest → Done command run at telegram raw rest
-unfolding attemptAt
+unfolding attemptAt endingAt
 done command run at telegram raw rest (alone form right none) wire =
     let t = through command run at telegram rest form wire in
     let next = at + length (expanded telegram) in
     record {
       is =
-          ap (onTelegram command run) (t .is)
-          ∙ ap (λ b. pick b (settled telegram (t .checkPlace) next) (onAcknowledge telegram (t .checkPlace) (acknowledgeAt run next))) (all-unanswered command telegram none)
+          ap (λ x. settled (onTelegram command run x)) (t .is)
+          ∙ ap (λ b. settled (pick b (answered-with telegram (t .checkPlace) next) (onAcknowledge telegram (t .checkPlace) (acknowledgeAt run next)))) (all-unanswered command telegram none)
           ∙ settled-right telegram (t .checkPlace) next (right-check telegram right);
       left = t .left;
     }
@@ -85,9 +85,9 @@ done command run at telegram raw rest (acknowledged form right due) wire =
     let next = at + length (expanded telegram) in
     record {
       is =
-          ap (onTelegram command run) (t .is)
-          ∙ ap (λ b. pick b (settled telegram (t .checkPlace) next) (onAcknowledge telegram (t .checkPlace) (acknowledgeAt run next))) (one-answered command telegram due)
-          ∙ ap (onAcknowledge telegram (t .checkPlace)) (ack-read run next rest (t .left))
+          ap (λ x. settled (onTelegram command run x)) (t .is)
+          ∙ ap (λ b. settled (pick b (answered-with telegram (t .checkPlace) next) (onAcknowledge telegram (t .checkPlace) (acknowledgeAt run next)))) (one-answered command telegram due)
+          ∙ ap (λ a. settled (onAcknowledge telegram (t .checkPlace) a)) (ack-read run next rest (t .left))
           ∙ settled-right telegram (t .checkPlace) (next + 1) (right-check telegram right)
           ∙ ap (taken telegram) (one-more at (expanded telegram) ack);
       left = ap (λ (n : ℕ). drop n run) (sym (one-more at (expanded telegram) ack)) ∙ rest-is run next ack rest (t .left);
@@ -98,13 +98,13 @@ done command run at telegram raw rest (acknowledged form right due) wire =
 nacked-read : (command : Bool) (run : List ℕ) (at : ℕ) (telegram rest : List ℕ) → Form command telegram → ToOne command telegram
     → drop at run ≡ expanded telegram ++ (nack ∷ rest)
     → (attemptAt command run at ≡ nacked telegram (at + length (expanded telegram))) × (drop (at + length (expanded telegram) + 1) run ≡ rest)
-unfolding attemptAt
+unfolding attemptAt endingAt
 nacked-read command run at telegram rest form due wire =
     let t = through command run at telegram (nack ∷ rest) form wire in
     let next = at + length (expanded telegram) in (
-      ap (onTelegram command run) (t .is)
-          ∙ ap (λ b. pick b (settled telegram (t .checkPlace) next) (onAcknowledge telegram (t .checkPlace) (acknowledgeAt run next))) (one-answered command telegram due)
-          ∙ ap (onAcknowledge telegram (t .checkPlace)) (nack-read run next rest (t .left)),
+      ap (λ x. settled (onTelegram command run x)) (t .is)
+          ∙ ap (λ b. settled (pick b (answered-with telegram (t .checkPlace) next) (onAcknowledge telegram (t .checkPlace) (acknowledgeAt run next)))) (one-answered command telegram due)
+          ∙ ap (λ a. settled (onAcknowledge telegram (t .checkPlace) a)) (nack-read run next rest (t .left)),
       rest-is run next nack rest (t .left),
     )
 

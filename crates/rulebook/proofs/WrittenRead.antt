@@ -20,7 +20,7 @@ use Rattle.addresses.specs.Address.{initiator, reserved, kindOf}
 use Rattle.checkbyte.specs.Check.{ebusCheck}
 use Rattle.telegram.specs.Telegram.{destinationOf, longest}
 use Rattle.sending.specs.Sending.{closed, commandOutput, replyOutput}
-use Rattle.exchange.specs.Exchange.{ack, toAll, unanswered}
+use Rattle.attempts.specs.Attempt.{ack, toAll, unanswered}
 use Rattle.rulebook.specs.ReadBack.{commandBytes, replyBytes, Before, nothing, nacked-once, rawBefore, attemptsOf, firstTried, secondTried}
 use Rattle.rulebook.specs.Rules.{CommandForm, ReplyForm, Right, Accepted, alone, acknowledged, Attempts, at-once, repeated, OnWire, broadcast, initiators, target}
 use Rattle.rulebook.proofs.OwnWords.{to-all, to-one}

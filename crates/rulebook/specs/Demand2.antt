@@ -22,7 +22,8 @@ use Rattle.addresses.specs.declared.ExchangeKind.{ExchangeKind}
 use Rattle.addresses.specs.declared.ExchangeKind.the-variants.{Broadcast, InitiatorInitiator, InitiatorTarget}
 use Rattle.telegram.specs.Telegram.{longest, commandRoom, replyRoom}
 use Rattle.sending.specs.Sending.{commandOutput, replyOutput}
-use Rattle.exchange.specs.Exchange.{ack, accepted, exchangeAt, judged}
+use Rattle.attempts.specs.Attempt.{ack}
+use Rattle.exchange.specs.Exchange.{accepted, exchangeAt, judged}
 use Rattle.replies.specs.Data.{replyData}
 use Rattle.exchange.specs.View.{Judges}
 use Rattle.exchange.specs.declared.judge.Judged.{Judged}

@@ -6,7 +6,7 @@ use Prim.Native.Nat.{ℕ}
 use lib.ListN.{length}
 use Rattle.escapes.specs.Escape.{expanded}
 use Rattle.sending.specs.Sending.{closed}
-use Rattle.exchange.specs.Exchange.{nack}
+use Rattle.attempts.specs.Attempt.{nack}
 use Rattle.rulebook.specs.Rules.{Form, ToOne}
 
 -- the telegrams that the writers make

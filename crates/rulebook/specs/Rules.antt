@@ -1,6 +1,7 @@
 -- The rule book: what may stand on the wire, said once more with no mention of refusals, positions or reading, and in words of
 -- its own: rules E9, E10 and E12 to E15. That the judge accepts a run exactly when its beginning is in `OnWire`, with the same kind,
--- attempts and bytes, is proved in proofs/RuleBook.antt; it guards the definitions of exchange/specs/Exchange.antt.
+-- attempts and bytes, is proved in proofs/RuleBook.antt; it guards the definitions of attempts/specs/Attempt.antt
+-- and exchange/specs/Exchange.antt.
 -- Assumes nothing.
 use mathlib.Core.Path.{_≡_}
 use mathlib.Core.Bool.{Bool, true, false}
@@ -13,7 +14,7 @@ use Rattle.addresses.specs.declared.ExchangeKind.the-variants.{Broadcast, Initi
 use Rattle.addresses.specs.Address.{initiator, reserved, everyone, kindOf}
 use Rattle.checkbyte.specs.Check.{ebusCheck}
 use Rattle.telegram.specs.Telegram.{destinationOf, longest}
-use Rattle.exchange.specs.Exchange.{ack, nack}
+use Rattle.attempts.specs.Attempt.{ack, nack}
 
 -- a command, rule E9; its check byte may be wrong
 pub record CommandForm (telegram : List ℕ) : Type 0 where

@@ -4,3 +4,5 @@ pub mod CollectedOnWire
 pub mod HeadJudged
 pub mod TelegramOnWire
 pub mod TelegramRead
+pub mod LongerRun
+pub mod RefusedPlace

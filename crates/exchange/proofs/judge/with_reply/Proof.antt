@@ -8,7 +8,7 @@ use Rattle.addresses.specs.declared.ExchangeKind.the-variants.{InitiatorTarget}
 use Rattle.exchange.specs.Exchange.{synAt, onReply}
 use Rattle.exchange.specs.Inner.{triesAs}
 use Rattle.exchange.proofs.OutcomeBySyn.{outcome-at}
-use Rattle.exchange.proofs.FromRun.{ready-none}
+use Rattle.attempts.proofs.FromRun.{ready-none}
 use borrow.Author.Needs.{needs}
 use Rattle.exchange.proofs.judge.with_reply.Statement.{statement}
 use Rattle.exchange.proofs.judge.with_reply.Tie as tie

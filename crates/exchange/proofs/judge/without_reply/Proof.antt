@@ -5,7 +5,7 @@ use mathlib.Core.Bool.{false}
 use Rattle.escapes.specs.Logical.{logicalsAt}
 use Rattle.exchange.specs.Exchange.{synAt}
 use Rattle.exchange.proofs.OutcomeBySyn.{outcome-at}
-use Rattle.exchange.proofs.FromRun.{ready-none}
+use Rattle.attempts.proofs.FromRun.{ready-none}
 use borrow.Author.Needs.{needs}
 use Rattle.exchange.proofs.judge.without_reply.Statement.{statement}
 use Rattle.exchange.proofs.judge.without_reply.Tie as tie
