@@ -44,6 +44,28 @@ AT(moor_judged, reply_attempts, 3);
 AT(moor_judged, place, 8);
 AT(moor_judged, read, 16);
 
+SIZE(moor_listening, 128);
+AT(moor_listening, start, 0);
+AT(moor_listening, place, 8);
+AT(moor_listening, due, 16);
+AT(moor_listening, number, 17);
+AT(moor_listening, held, 18);
+AT(moor_listening, command_attempts, 19);
+AT(moor_listening, reply_attempts, 20);
+AT(moor_listening, command_length, 21);
+AT(moor_listening, reply_1_length, 22);
+AT(moor_listening, reply_2_length, 23);
+AT(moor_listening, raw, 24);
+AT(moor_listening, kept, 69);
+
+SIZE(moor_fed, 136);
+AT(moor_fed, state, 0);
+AT(moor_fed, used, 128);
+
+SIZE(moor_closed, 152);
+AT(moor_closed, judged, 0);
+AT(moor_closed, state, 24);
+
 SIZE(moor_part, 24);
 AT(moor_part, attempt, 0);
 AT(moor_part, start, 8);
@@ -439,14 +461,17 @@ typedef struct {
 #define NOT_JUDGED(why, where) \
     ((exchange){{.number = (why), .place = (where)}, none, none, none})
 
-static void judge_within(bytes run, size_t room, size_t room_1, size_t room_2, exchange must)
+static void fill_exchange(void)
 {
     fill(command);
     fill(reply_1);
     fill(reply_2);
-    moor_judged got = moor_judge(run.start, run.length, command, room, reply_1, room_1,
-                                 reply_2, room_2);
-    print_call("moor_judge", run);
+}
+
+/* Prints what a judging gave, and holds it and the buffers to what it must
+ * give. */
+static void judged(moor_judged got, exchange must)
+{
     if (got.number != MOOR_ACCEPTED)
         print_refused(got.number, got.place);
     else
@@ -461,6 +486,15 @@ static void judge_within(bytes run, size_t room, size_t room_1, size_t room_2, e
     EXPECT(starts(command, must.command));
     EXPECT(starts(reply_1, must.reply_1));
     EXPECT(starts(reply_2, must.reply_2));
+}
+
+static void judge_within(bytes run, size_t room, size_t room_1, size_t room_2, exchange must)
+{
+    fill_exchange();
+    moor_judged got = moor_judge(run.start, run.length, command, room, reply_1, room_1,
+                                 reply_2, room_2);
+    print_call("moor_judge", run);
+    judged(got, must);
 }
 
 static void judge(bytes run, exchange must)
@@ -554,6 +588,295 @@ static void data_of_replies(void)
     reply_data(BYTES(0x00, 0x00), none, 1, (moor_part){1, 1, 0});
     reply_data(BYTES(REPLY), BYTES(0x00, 0x00), 2, (moor_part){2, 1, 0});
     reply_data(none, none, 1, empty);
+}
+
+/* ---- Bytes as they arrive ------------------------------------------------ */
+
+static moor_listening listen(void)
+{
+    moor_listening state = moor_listen();
+    bool answered = moor_has_answered(state);
+    printf("moor_listen -> %s\n", answered ? "answered" : "nothing heard");
+    EXPECT(!answered);
+    return state;
+}
+
+/* Feeds a run to the state: how many bytes it must use, and whether the answer
+ * must be known then. */
+static void feed(moor_listening *state, bytes run, size_t used, bool answered)
+{
+    moor_fed got = moor_feed(*state, run.start, run.length);
+    *state = got.state;
+    bool got_answered = moor_has_answered(got.state);
+    print_call("moor_feed", run);
+    printf("%zu used\n", got.used);
+    printf("moor_has_answered -> %s\n", got_answered ? "yes" : "no");
+    EXPECT(got.used == used);
+    EXPECT(got_answered == answered);
+}
+
+/* Whether two states hold the same; the last byte of their room is none of
+ * theirs. */
+static bool same_state(const moor_listening *one, const moor_listening *other)
+{
+    return memcmp(one, other, offsetof(moor_listening, kept) + sizeof one->kept) == 0;
+}
+
+/* Closes the state. Buffers that are too short give it back as it was; after
+ * every other answer it has answered. */
+static void close_within(moor_listening *state, size_t room, size_t room_1, size_t room_2,
+                         exchange must)
+{
+    fill_exchange();
+    moor_closed got = moor_close(*state, command, room, reply_1, room_1, reply_2, room_2);
+    printf("moor_close -> ");
+    judged(got.judged, must);
+    if (must.answer.number == MOOR_OUTPUT_SHORT)
+        EXPECT(same_state(&got.state, state));
+    else
+        EXPECT(moor_has_answered(got.state));
+    *state = got.state;
+}
+
+static void close_state(moor_listening *state, exchange must)
+{
+    close_within(state, MOOR_COMMAND_ROOM, MOOR_REPLY_ROOM, MOOR_REPLY_ROOM, must);
+}
+
+/* A state that has answered uses no more bytes and gives the same again. */
+static void stays_closed(moor_listening *state, exchange must)
+{
+    close_state(state, must);
+    feed(state, BYTES(COMMAND, ACK, REPLY, ACK, SYN), 0, true);
+    feed(state, none, 0, true);
+    close_state(state, must);
+}
+
+static void listening_accepted(void)
+{
+    bytes sent = BYTES(COMMAND), answered = BYTES(REPLY), wrong = BYTES(WRONG_REPLY);
+    moor_listening state = listen(); /* W7 */
+    feed(&state, BYTES(0x10, 0x08, 0xB5), 3, false);
+    feed(&state, none, 0, false);
+    feed(&state, BYTES(0x11, 0x01, 0x01, 0x89, ACK, 0x01), 6, false);
+    feed(&state, BYTES(0x2A, 0xB1, ACK, SYN, 0x10, 0x08), 4, true);
+    stays_closed(&state, (exchange){JUDGED(MOOR_INITIATOR_TARGET, 1, 1, 13), sent, answered,
+                                    none});
+    state = listen();
+    feed(&state, BYTES(WRONG_COMMAND, NACK, 0x10), 9, false);
+    feed(&state, BYTES(0x08, 0xB5, 0x11, 0x01, 0x01, 0x89, ACK), 7, false);
+    feed(&state, BYTES(WRONG_REPLY, NACK), 4, false);
+    feed(&state, BYTES(REPLY, ACK), 4, false);
+    feed(&state, BYTES(SYN), 1, true);
+    stays_closed(&state, (exchange){JUDGED(MOOR_INITIATOR_TARGET, 2, 2, 25), sent, wrong,
+                                    answered});
+    state = listen();
+    feed(&state, BYTES(0x10, 0xFE, 0xB5, 0x11, 0x01, 0xA9), 6, false);
+    feed(&state, BYTES(0x00), 1, false);
+    feed(&state, BYTES(0x44), 1, false);
+    feed(&state, BYTES(SYN, SYN), 1, true);
+    stays_closed(&state, (exchange){JUDGED(MOOR_BROADCAST, 1, 0, 9),
+                                    BYTES(0x10, 0xFE, 0xB5, 0x11, 0x01, 0xA9, 0x44), none, none});
+}
+
+/* Each run's last byte but the spare one decides. */
+static void listening_refused(void)
+{
+    moor_listening state = listen(); /* W8 */
+    feed(&state, BYTES(COMMAND), 7, false);
+    feed(&state, BYTES(0x55, REPLY, ACK, SYN), 1, true);
+    stays_closed(&state, NOT_JUDGED(MOOR_BUS_ERROR, 7));
+    state = listen();
+    feed(&state, BYTES(0x10, 0xFE, 0xB5, 0x11, 0x00, 0xA9), 6, false);
+    feed(&state, BYTES(0x00, SYN), 1, true);
+    stays_closed(&state, NOT_JUDGED(MOOR_CHECK_WRONG, 5));
+    state = listen();
+    feed(&state, BYTES(0x10, 0xA9), 2, false);
+    feed(&state, BYTES(0x01, 0xB5), 1, true);
+    stays_closed(&state, NOT_JUDGED(MOOR_DESTINATION_WRONG, 1));
+    state = listen();
+    feed(&state, BYTES(COMMAND, NACK, COMMAND), 15, false);
+    feed(&state, BYTES(NACK, NACK), 1, true);
+    stays_closed(&state, NOT_JUDGED(MOOR_COMMAND_NACKED, 15));
+}
+
+/* A command that was NACKed, and a broadcast in its place, up to the middle of
+ * its check byte. */
+static moor_listening broadcast_begun(void)
+{
+    moor_listening state = listen();
+    feed(&state, BYTES(COMMAND, NACK), 8, false);
+    feed(&state, BYTES(0x10, 0xFE, 0xB5, 0x05, 0x01, 0x18, 0xA9), 7, false);
+    return state;
+}
+
+static void listening_within_an_escape(void)
+{
+    bytes next = BYTES(SYN, 0x10);
+    moor_listening state = broadcast_begun();
+    feed(&state, BYTES(0x01), 1, false);
+    moor_listening closed = state;
+    stays_closed(&closed, NOT_JUDGED(MOOR_RUN_ENDED, 16));
+    feed(&state, next, 1, true);
+    stays_closed(&state, (exchange){JUDGED(MOOR_BROADCAST, 2, 0, 17),
+                                    BYTES(0x10, 0xFE, 0xB5, 0x05, 0x01, 0x18, 0xAA), none, none});
+    state = broadcast_begun();
+    feed(&state, BYTES(0x00), 1, true);
+    feed(&state, next, 0, true);
+    stays_closed(&state, NOT_JUDGED(MOOR_CHECK_WRONG, 14));
+    state = broadcast_begun();
+    feed(&state, BYTES(0x55), 1, true);
+    stays_closed(&state, NOT_JUDGED(MOOR_ESCAPE_WRONG, 15));
+    state = broadcast_begun();
+    feed(&state, BYTES(SYN), 1, true);
+    stays_closed(&state, NOT_JUDGED(MOOR_SYN_EARLY, 15));
+}
+
+/* Up to a reply with a wrong check byte, before it is answered. */
+static moor_listening reply_heard(void)
+{
+    moor_listening state = listen();
+    feed(&state, BYTES(COMMAND, ACK, 0x01, 0x2A, 0xB0), 11, false);
+    return state;
+}
+
+static void listening_to_replies(void)
+{
+    moor_listening state = reply_heard();
+    feed(&state, BYTES(NACK, REPLY, ACK), 5, false);
+    feed(&state, BYTES(SYN, SYN), 1, true);
+    stays_closed(&state, (exchange){JUDGED(MOOR_INITIATOR_TARGET, 1, 2, 17), BYTES(COMMAND),
+                                    BYTES(0x01, 0x2A, 0xB0), BYTES(REPLY)});
+    state = reply_heard();
+    feed(&state, BYTES(NACK, 0xA9), 2, false);
+    feed(&state, BYTES(0x00, SYN), 1, true);
+    stays_closed(&state, NOT_JUDGED(MOOR_LENGTH_OVER, 12));
+    state = reply_heard();
+    feed(&state, BYTES(NACK, REPLY, NACK, ACK), 5, true);
+    stays_closed(&state, NOT_JUDGED(MOOR_REPLY_NACKED, 15));
+}
+
+/* A wrong byte at the start of a command. */
+static void listening_to_wrong_starts(void)
+{
+    moor_listening state = listen();
+    feed(&state, BYTES(0xA9), 1, false);
+    feed(&state, BYTES(0x01), 1, true);
+    stays_closed(&state, NOT_JUDGED(MOOR_SOURCE_WRONG, 0));
+    state = listen();
+    feed(&state, BYTES(0x02, SYN), 1, true);
+    stays_closed(&state, NOT_JUDGED(MOOR_SOURCE_WRONG, 0));
+    state = listen();
+    feed(&state, BYTES(0x10, 0xA9), 2, false);
+    feed(&state, BYTES(0x00, 0x55), 1, true);
+    stays_closed(&state, NOT_JUDGED(MOOR_DESTINATION_WRONG, 1));
+    state = listen();
+    feed(&state, BYTES(0x10, 0xA9), 2, false);
+    feed(&state, BYTES(SYN), 1, true);
+    stays_closed(&state, NOT_JUDGED(MOOR_SYN_EARLY, 2));
+    state = listen();
+    feed(&state, BYTES(0x10, 0x08, 0xB5, 0x11, 0x11, 0x00), 5, true);
+    stays_closed(&state, NOT_JUDGED(MOOR_LENGTH_OVER, 4));
+}
+
+/* A wrong check byte is judged when it is acknowledged. */
+static void listening_to_a_wrong_check(void)
+{
+    moor_listening state = listen();
+    feed(&state, BYTES(WRONG_COMMAND), 7, false);
+    feed(&state, none, 0, false);
+    moor_listening closed = state;
+    close_state(&closed, NOT_JUDGED(MOOR_RUN_ENDED, 7));
+    feed(&closed, BYTES(ACK), 0, true);
+    close_state(&closed, NOT_JUDGED(MOOR_RUN_ENDED, 7));
+    feed(&state, BYTES(ACK, 0x01, 0x2A), 1, true);
+    close_within(&state, 22, 18, 17, NOT_JUDGED(MOOR_OUTPUT_SHORT, 0));
+    stays_closed(&state, NOT_JUDGED(MOOR_CHECK_WRONG, 6));
+}
+
+/* Number 3 is given only on closing, and number 1 before any other. */
+static void listening_closed(void)
+{
+    exchange output_short = NOT_JUDGED(MOOR_OUTPUT_SHORT, 0);
+    moor_listening state = listen();
+    stays_closed(&state, NOT_JUDGED(MOOR_RUN_ENDED, 0));
+    state = listen();
+    feed(&state, BYTES(0x10, 0x08, 0xB5, 0x11, 0x01, 0xA9), 6, false);
+    stays_closed(&state, NOT_JUDGED(MOOR_RUN_ENDED, 6));
+    state = listen();
+    close_within(&state, 0, 0, 0, output_short);
+    feed(&state, BYTES(COMMAND, ACK), 8, false);
+    close_within(&state, 21, 18, 18, output_short);
+    feed(&state, BYTES(REPLY, ACK), 4, false);
+    close_within(&state, 22, 17, 18, output_short);
+    feed(&state, BYTES(SYN), 1, true);
+    close_within(&state, 22, 18, 17, output_short);
+    stays_closed(&state, (exchange){JUDGED(MOOR_INITIATOR_TARGET, 1, 1, 13), BYTES(COMMAND),
+                                    BYTES(REPLY), none});
+    state = listen();
+    feed(&state, BYTES(0x12), 1, true);
+    close_within(&state, 21, 18, 18, output_short);
+    stays_closed(&state, NOT_JUDGED(MOOR_SOURCE_WRONG, 0));
+}
+
+/* Whether a buffer is as it was, from this byte on. */
+static bool kept_from(const uint8_t *buffer, size_t first)
+{
+    for (size_t i = first; i < MOST; i++) {
+        if (buffer[i] != FILL)
+            return false;
+    }
+    return true;
+}
+
+/* Any bytes in place of a state: the calls return, a state whose `due` is 5 or
+ * more uses nothing, and a closing keeps to its buffers, which a refusal
+ * leaves. */
+static bool keeps_to_its_own(moor_listening state)
+{
+    bytes run = BYTES(COMMAND, ACK, 0x01, 0xA9, 0x01, NACK, REPLY, ACK, SYN);
+    moor_fed fed = moor_feed(state, run.start, run.length);
+    fill_exchange();
+    moor_closed got = moor_close(fed.state, command, MOOR_COMMAND_ROOM, reply_1,
+                                 MOOR_REPLY_ROOM, reply_2, MOOR_REPLY_ROOM);
+    bool accepted = got.judged.number == MOOR_ACCEPTED;
+    return moor_has_answered(state) == (state.due >= 5) &&
+           fed.used <= (state.due >= 5 ? 0 : run.length) &&
+           kept_from(command, accepted ? MOOR_COMMAND_ROOM : 0) &&
+           kept_from(reply_1, accepted ? MOOR_REPLY_ROOM : 0) &&
+           kept_from(reply_2, accepted ? MOOR_REPLY_ROOM : 0);
+}
+
+/* A state of random bytes; its `due` is one that is in use, or one behind. */
+static moor_listening random_state(uint32_t *random, uint8_t due)
+{
+    uint8_t content[sizeof(moor_listening)];
+    for (size_t i = 0; i < sizeof content; i++) {
+        *random = *random * 1664525 + 1013904223;
+        content[i] = (uint8_t)(*random >> 24);
+    }
+    moor_listening state;
+    memcpy(&state, content, sizeof state);
+    state.due = due;
+    return state;
+}
+
+static void any_states(void)
+{
+    moor_listening state;
+    unsigned right = 0;
+    for (int value = 0; value < 256; value++) {
+        memset(&state, value, sizeof state);
+        right += keeps_to_its_own(state);
+    }
+    uint32_t random = 1;
+    for (unsigned turn = 0; turn < 9744; turn++) {
+        state = random_state(&random, (uint8_t)(turn % 7));
+        right += keeps_to_its_own(state);
+    }
+    printf("moor_feed and moor_close, 10000 states of any bytes -> %u kept to their own\n",
+           right);
+    EXPECT(right == 10000);
 }
 
 /* ---- Frames -------------------------------------------------------------- */
@@ -908,6 +1231,14 @@ int main(void)
     telegrams_written();
     exchanges_accepted();
     exchanges_refused();
+    listening_accepted();
+    listening_refused();
+    listening_within_an_escape();
+    listening_to_replies();
+    listening_to_wrong_starts();
+    listening_to_a_wrong_check();
+    listening_closed();
+    any_states();
     data_of_replies();
     requests_read();
     answers_read();

@@ -104,8 +104,8 @@ extern "C" {
 #define MOOR_UNFINISHED 3 /* the cap was reached first */
 
 /* The room that calls ask for. */
-#define MOOR_COMMAND_ROOM  22 /* command buffer of moor_judge */
-#define MOOR_REPLY_ROOM    18 /* each reply buffer of moor_judge */
+#define MOOR_COMMAND_ROOM  22 /* command buffer of moor_judge and moor_close */
+#define MOOR_REPLY_ROOM    18 /* each reply buffer of moor_judge and moor_close */
 #define MOOR_ANSWER_ROOM   42 /* answer buffer of moor_start, moor_resume, moor_offer */
 #define MOOR_COMMAND_WIRE  41 /* the longest command on the wire */
 #define MOOR_REPLY_WIRE    35 /* the longest reply on the wire */
@@ -151,6 +151,36 @@ typedef struct {
     size_t place;
     size_t read;
 } moor_judged;
+
+/* A state of listening to an exchange whose bytes arrive in runs. It is plain
+ * data: it may be copied and kept, and any bytes in it are safe to hand in. */
+typedef struct {
+    size_t start;            /* where in the recording what is in hand starts */
+    size_t place;            /* once refused, the place */
+    uint8_t due;             /* what is due next; from 5 on it has answered */
+    uint8_t number;          /* once answered, the number; 0 is accepted */
+    uint8_t held;            /* how many raw bytes of an attempt are in hand */
+    uint8_t command_attempts;
+    uint8_t reply_attempts;
+    uint8_t command_length;  /* how many bytes of `kept` the command has, .. */
+    uint8_t reply_1_length;  /* .. the first reply, which stands at 22, .. */
+    uint8_t reply_2_length;  /* .. and the second, which stands at 40 */
+    uint8_t raw[45];
+    uint8_t kept[58];
+} moor_listening;
+
+/* What a run did to a state: the state now, and how many of the run's bytes
+ * were used. */
+typedef struct {
+    moor_listening state;
+    size_t used;
+} moor_fed;
+
+/* What closing gives: the answer, as moor_judge gives it, and the state now. */
+typedef struct {
+    moor_judged judged;
+    moor_listening state;
+} moor_closed;
 
 /* Where a reply's data stands: `length` bytes from `start` of the buffer of
  * attempt 1 or 2. */
@@ -293,7 +323,8 @@ moor_written moor_write_reply(const uint8_t *payload, size_t payload_length,
  * looked at. When accepted, `command` starts with the accepted command, SRC
  * through check byte, and `reply_1` and `reply_2` with the reply attempts that
  * happened, LEN through check byte, NACKed ones included; all other bytes
- * stay. A command attempt that was NACKed is not kept.
+ * stay. A command attempt that was NACKed is not kept. Bytes behind the 2^31st
+ * are not looked at.
  *
  * Refuses with
  *   MOOR_OUTPUT_SHORT    if `command` is under MOOR_COMMAND_ROOM bytes, or
@@ -315,8 +346,43 @@ moor_judged moor_judge(const uint8_t *run, size_t run_length,
                        uint8_t *reply_1, size_t reply_1_length,
                        uint8_t *reply_2, size_t reply_2_length);
 
+/* ---- eBUS: bytes as they arrive ------------------------------------------ */
+
+/* The judge for bytes that come in runs: a state is made by moor_listen, fed
+ * with one run after another by moor_feed, and asked for its answer by
+ * moor_close. However a recording is cut into runs, the answer and the buffers
+ * are those of moor_judge on the whole recording. */
+
+/* A fresh state: nothing was heard. */
+moor_listening moor_listen(void);
+
+/* Feeds a run of any length. It is used up to the byte that settles the
+ * exchange, that byte included, and not beyond the 2^31st byte of the
+ * recording; a state that has answered uses none. At the limit nothing more is
+ * used though the state has not answered. Never refuses. */
+moor_fed moor_feed(moor_listening state, const uint8_t *run, size_t run_length);
+
+/* Whether the answer is known, so that no more bytes are used. */
+bool moor_has_answered(moor_listening state);
+
+/* Closes the input: the answer to all bytes used so far, into buffers as
+ * moor_judge takes them.
+ *
+ * Refuses with
+ *   MOOR_OUTPUT_SHORT  as moor_judge does, also where the state holds a
+ *                      refusal; the state given back is then the one handed
+ *                      in, as if it had not been closed;
+ * and else as moor_judge does. MOOR_RUN_ENDED is given where the answer is
+ * not known yet; its place is the number of bytes used. Every answer but
+ * MOOR_OUTPUT_SHORT gives back a state that has answered: it uses no more
+ * bytes, and closed again it gives the same answer. */
+moor_closed moor_close(moor_listening state,
+                       uint8_t *command, size_t command_length,
+                       uint8_t *reply_1, size_t reply_1_length,
+                       uint8_t *reply_2, size_t reply_2_length);
+
 /* Where the data of the reply attempt asked for stands in the buffers that
- * moor_judge filled. Ask with the attempts that moor_judge gave.
+ * moor_judge or moor_close filled. Ask with the reply attempts that it gave.
  *
  * Never refuses. A reply with LEN 0 has its data behind LEN like any other
  * (start 1, length 0). Where there is no such data it is the empty start of

@@ -105,6 +105,43 @@ pub(crate) fn judge(
     }
 }
 
+pub(crate) fn listen() -> sys::Listening {
+    // SAFETY: no pointer is handed on.
+    unsafe { sys::moor_listen() }
+}
+
+pub(crate) fn feed(state: sys::Listening, run: &[u8]) -> sys::Fed {
+    // SAFETY: pointer and length of one slice, which is only read; any state
+    // may be handed in.
+    unsafe { sys::moor_feed(state, run.as_ptr(), run.len()) }
+}
+
+pub(crate) fn has_answered(state: sys::Listening) -> bool {
+    // SAFETY: no pointer is handed on; any state may be handed in.
+    unsafe { sys::moor_has_answered(state) }
+}
+
+pub(crate) fn close(
+    state: sys::Listening,
+    command: &mut [u8],
+    reply_1: &mut [u8],
+    reply_2: &mut [u8],
+) -> sys::Closed {
+    // SAFETY: pointer and length of each slice; the three that are written
+    // overlap nothing; any state may be handed in.
+    unsafe {
+        sys::moor_close(
+            state,
+            command.as_mut_ptr(),
+            command.len(),
+            reply_1.as_mut_ptr(),
+            reply_1.len(),
+            reply_2.as_mut_ptr(),
+            reply_2.len(),
+        )
+    }
+}
+
 pub(crate) fn reply_data(reply_1: &[u8], reply_2: &[u8], attempt: u8) -> sys::Part {
     // SAFETY: pointer and length of each slice; both are only read.
     unsafe {

@@ -1,5 +1,5 @@
 //! eBUS: check byte, escapes, addresses, telegrams, and the judging of
-//! recorded exchanges.
+//! exchanges, recorded whole or as their bytes arrive.
 //!
 //! *Raw* bytes are those on the wire. *Logical* bytes are those meant: on the
 //! wire every A9 becomes A9 00 and every AA becomes A9 01, since a raw AA is
@@ -11,9 +11,11 @@ use crate::refusal::length_of;
 use crate::{call, sys, Refusal};
 
 mod exchange;
+mod listener;
 mod telegram;
 
 pub use exchange::{judge, judge_into, reply_data, Exchange, Judged, COMMAND_ROOM, REPLY_ROOM};
+pub use listener::Listener;
 pub use telegram::{
     check_right, read_command, read_reply, write_command, write_command_to_vec, write_reply,
     write_reply_to_vec, Command, Telegram, COMMAND_WIRE, REPLY_WIRE,

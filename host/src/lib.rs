@@ -24,6 +24,8 @@
 //! # Ok::<(), moortinker::Refusal>(())
 //! ```
 //!
+//! Bytes that arrive in runs are judged by an [`ebus::Listener`] in the same way.
+//!
 //! W12, a scan of three sensors:
 //!
 //! ```

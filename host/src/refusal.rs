@@ -73,7 +73,7 @@ reasons! {
         /// The device table is not valid.
         TableNotValid = 2, "the device table is not valid";
         /// The eBUS run ends too early, or an escape does. The place is the run's
-        /// length.
+        /// length; for a listener that is closed, the bytes that it used.
         RunEnded = 3, "the run ends too early";
         /// The byte after A9 is none of 00, 01, AA.
         EscapeWrong = 4, "A9 is followed by none of 00, 01, AA";

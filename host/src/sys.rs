@@ -91,9 +91,9 @@ pub const MOOR_NOBODY: u8 = 2;
 /// The cap was reached first.
 pub const MOOR_UNFINISHED: u8 = 3;
 
-/// The room that `moor_judge` asks of its command buffer.
+/// The room that `moor_judge` and `moor_close` ask of their command buffer.
 pub const MOOR_COMMAND_ROOM: usize = 22;
-/// The room that `moor_judge` asks of each reply buffer.
+/// The room that `moor_judge` and `moor_close` ask of each reply buffer.
 pub const MOOR_REPLY_ROOM: usize = 18;
 /// The room that `moor_start`, `moor_resume` and `moor_offer` ask for.
 pub const MOOR_ANSWER_ROOM: usize = 42;
@@ -164,6 +164,57 @@ pub struct Judged {
     pub place: usize,
     /// The raw bytes read, SYN included.
     pub read: usize,
+}
+
+/// A state of listening to an exchange whose bytes arrive in runs. It is plain
+/// data: it may be copied and kept, and any bytes in it are safe to hand in.
+#[repr(C)]
+#[derive(Clone, Copy, Debug, PartialEq, Eq)]
+pub struct Listening {
+    /// Where in the recording what is in hand starts.
+    pub start: usize,
+    /// Once refused, the place.
+    pub place: usize,
+    /// What is due next; from 5 on it has answered.
+    pub due: u8,
+    /// Once answered, the number of the refusal, 0 when accepted.
+    pub number: u8,
+    /// How many raw bytes of an attempt are in hand.
+    pub held: u8,
+    /// The attempts at the command.
+    pub command_attempts: u8,
+    /// The attempts at the reply.
+    pub reply_attempts: u8,
+    /// How many bytes of `kept` the command has.
+    pub command_length: u8,
+    /// How many the first reply has, which stands at 22.
+    pub reply_1_length: u8,
+    /// How many the second reply has, which stands at 40.
+    pub reply_2_length: u8,
+    /// The raw bytes in hand.
+    pub raw: [u8; 45],
+    /// Command and replies, as far as they are known.
+    pub kept: [u8; 58],
+}
+
+/// What a run did to a state.
+#[repr(C)]
+#[derive(Clone, Copy, Debug, PartialEq, Eq)]
+pub struct Fed {
+    /// The state now.
+    pub state: Listening,
+    /// How many of the run's bytes were used.
+    pub used: usize,
+}
+
+/// What closing gives.
+#[repr(C)]
+#[derive(Clone, Copy, Debug, PartialEq, Eq)]
+pub struct Closed {
+    /// The answer, as [`moor_judge`] gives it.
+    pub judged: Judged,
+    /// The state now.
+    pub state: Listening,
 }
 
 /// Where a reply's data stands.
@@ -306,6 +357,26 @@ extern "C" {
         reply_2_length: usize,
     ) -> Judged;
 
+    /// A fresh state: nothing was heard.
+    pub fn moor_listen() -> Listening;
+
+    /// Feeds a run to a state.
+    pub fn moor_feed(state: Listening, run: *const u8, run_length: usize) -> Fed;
+
+    /// Whether the answer is known.
+    pub fn moor_has_answered(state: Listening) -> bool;
+
+    /// Closes the input: the answer to all bytes used so far.
+    pub fn moor_close(
+        state: Listening,
+        command: *mut u8,
+        command_length: usize,
+        reply_1: *mut u8,
+        reply_1_length: usize,
+        reply_2: *mut u8,
+        reply_2_length: usize,
+    ) -> Closed;
+
     /// Where the data of the reply attempt asked for stands.
     pub fn moor_reply_data(
         reply_1: *const u8,
@@ -422,6 +493,12 @@ mod tests {
         logical: Logical 24 8 { number 0 byte 1 place 8 next 16 }
         telegram: Telegram 64 8 { number 0 place 8 length 16 last 24 next 32 bytes 40 }
         judged: Judged 24 8 { number 0 kind 1 command_attempts 2 reply_attempts 3 place 8 read 16 }
+        listening: Listening 128 8 {
+            start 0 place 8 due 16 number 17 held 18 command_attempts 19 reply_attempts 20
+            command_length 21 reply_1_length 22 reply_2_length 23 raw 24 kept 69
+        }
+        fed: Fed 136 8 { state 0 used 128 }
+        closed: Closed 152 8 { judged 0 state 24 }
         part: Part 24 8 { attempt 0 start 8 length 16 }
         request_read: RequestRead 16 8 { number 0 request 1 place 8 }
         answer_read: AnswerRead 16 8 { number 0 answer 1 address 2 serial 4 place 8 }

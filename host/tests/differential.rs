@@ -1,6 +1,7 @@
 //! The archive held against the second implementation, input by input: answers,
 //! refusals with their places, and everything that was lent, with what lies
-//! around it.
+//! around it. Its listener, fed in runs, is also held against its own judge of
+//! the whole.
 //!
 //! `MOORTINKER_SEED` names another seed than the fixed one, decimal or 0x hex,
 //! and `MOORTINKER_INPUTS` another number of random inputs.
@@ -11,10 +12,14 @@
 mod board;
 #[path = "differential/calls.rs"]
 mod calls;
+#[path = "differential/cuts.rs"]
+mod cuts;
 #[path = "differential/edges.rs"]
 mod edges;
 #[path = "differential/families.rs"]
 mod families;
+#[path = "differential/hearing.rs"]
+mod hearing;
 #[path = "differential/inputs.rs"]
 mod inputs;
 #[path = "differential/lent.rs"]
@@ -23,11 +28,14 @@ mod lent;
 mod random;
 #[path = "differential/session.rs"]
 mod session;
+#[path = "differential/states.rs"]
+mod states;
 #[path = "differential/tables.rs"]
 mod tables;
 
 use std::panic::{catch_unwind, AssertUnwindSafe};
 
+use hearing::settled;
 use lent::{Lent, MARGIN};
 use moortinker::sys;
 use random::Random;
@@ -133,6 +141,41 @@ fn a_difference_ends_the_test_and_says_where() {
     ] {
         assert!(message.contains(part), "{part} is not in {message}");
     }
+}
+
+#[test]
+fn a_state_that_is_not_kept_is_a_difference() {
+    let state = |due, held| sys::Listening {
+        start: 0,
+        place: 0,
+        due,
+        number: 0,
+        held,
+        command_attempts: 1,
+        reply_attempts: 0,
+        command_length: 0,
+        reply_1_length: 0,
+        reply_2_length: 0,
+        raw: [0; 45],
+        kept: [0; 58],
+    };
+    let closed = |number, state| sys::Closed {
+        judged: sys::Judged {
+            number,
+            kind: 0,
+            command_attempts: 0,
+            reply_attempts: 0,
+            place: 0,
+            read: 0,
+        },
+        state,
+    };
+    // Number 1 gives back the state, any other number one that has answered.
+    let before = state(0, 1);
+    assert_eq!(settled(before, &closed(1, before)), Ok(()));
+    assert!(settled(before, &closed(1, state(0, 2))).is_err());
+    assert_eq!(settled(before, &closed(3, state(5, 1))), Ok(()));
+    assert!(settled(before, &closed(3, before)).is_err());
 }
 
 #[test]

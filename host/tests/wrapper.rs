@@ -1,14 +1,17 @@
 //! The wrapper held to the rules: the rows marked W, every number with its
-//! place, what stays on a refusal, the edges, and empty inputs.
+//! place, what stays on a refusal, the edges, and empty inputs. States of
+//! listening that no feeding makes are handed to the C interface itself.
 
 use std::fmt::Debug;
 
 use moortinker::devices::{
     contest, Columns, Decided, Device, ScanEnd, Scanned, Table, ANSWER_ROOM, MOST_DEVICES,
 };
-use moortinker::ebus::{self, Command, Kind, COMMAND_ROOM, COMMAND_WIRE, REPLY_ROOM, REPLY_WIRE};
+use moortinker::ebus::{
+    self, Command, Kind, Listener, COMMAND_ROOM, COMMAND_WIRE, REPLY_ROOM, REPLY_WIRE,
+};
 use moortinker::modbus::{self, Answer, Request};
-use moortinker::{Reason, Refusal};
+use moortinker::{sys, Reason, Refusal};
 
 /// What lent outputs hold before a call.
 const FILL: u8 = 0x5A;
@@ -464,6 +467,389 @@ fn reply_data_looks_at_length_and_buffer_only() {
     for attempt in [0, 3, 0xFF] {
         assert!(ebus::reply_data(&sixteen, &sixteen, attempt).is_empty());
     }
+}
+
+// ---- eBUS: bytes as they arrive ---------------------------------------------
+
+/// A listener that was fed with these runs, and how many bytes it used.
+fn heard(runs: &[&[u8]]) -> (Listener, usize) {
+    let mut listener = Listener::new();
+    let used = runs.iter().map(|run| listener.feed(run)).sum();
+    (listener, used)
+}
+
+/// A run, and how many of its bytes are used.
+type Used<'a> = (&'a [u8], usize);
+
+/// A listener that was fed with these runs.
+fn fed(runs: &[Used]) -> Listener {
+    let mut listener = Listener::new();
+    for &(run, used) in runs {
+        assert_eq!(listener.feed(run), used, "{run:02X?} of {runs:02X?}");
+    }
+    listener
+}
+
+/// Every way to cut a run into three.
+fn three_runs(run: &[u8]) -> impl Iterator<Item = [&[u8]; 3]> + '_ {
+    let cuts = (0..=run.len()).flat_map(|second| (0..=second).map(move |first| (first, second)));
+    cuts.map(|(first, second)| [&run[..first], &run[first..second], &run[second..]])
+}
+
+#[test]
+fn w7_and_w8_in_three_runs() {
+    for runs in three_runs(&EXCHANGE) {
+        let (mut listener, used) = heard(&runs);
+        assert_eq!((used, listener.has_answered()), (13, true));
+        assert_eq!(listener.close(), ebus::judge(&EXCHANGE));
+    }
+    let mut wrong = EXCHANGE;
+    wrong[7] = 0x55;
+    for runs in three_runs(&wrong) {
+        let (mut listener, used) = heard(&runs);
+        assert_eq!((used, listener.has_answered()), (8, true));
+        assert_eq!(refused(listener.close()), (12, 7));
+    }
+}
+
+#[test]
+fn the_byte_that_decides_is_the_last_used() {
+    let cases: [(&[&[u8]], Named); 10] = [
+        (&[&[0x10, 0xA9, 0x02]], (4, 2)),
+        (&[COMMAND, SYN], (5, 7)),
+        (&[&[0xA9, 0x00]], (6, 0)),
+        (&[&[0x10, 0xA9, 0x01]], (7, 1)),
+        (&[COMMAND, ACK, &[0xA9, 0x00]], (8, 8)),
+        (&[COMMAND_WRONG, ACK], (9, 6)),
+        (&[&[0x10, 0xFE, 0xB5, 0x11, 0x00, 0xA9, 0x00]], (9, 5)),
+        (&[COMMAND, NACK, COMMAND, NACK], (10, 15)),
+        (&[COMMAND, ACK, REPLY, NACK, REPLY, NACK], (11, 15)),
+        (&[COMMAND, ACK, REPLY, ACK, ACK], (12, 12)),
+    ];
+    for (parts, refusal) in cases {
+        let run = parts.concat();
+        let (&last, before) = run.split_last().unwrap();
+        let (mut listener, used) = heard(&[before]);
+        assert_eq!((used, listener.has_answered()), (before.len(), false));
+        assert_eq!(listener.feed(&[last, 0xAA, 0xAA]), 1, "{run:02X?}");
+        assert!(listener.has_answered());
+        assert_eq!(refused(listener.close()), refusal, "{run:02X?}");
+    }
+}
+
+#[test]
+fn an_input_may_be_closed_at_any_time() {
+    for length in 0..EXCHANGE.len() {
+        let (mut listener, used) = heard(&[&EXCHANGE[..length]]);
+        assert_eq!((used, listener.has_answered()), (length, false));
+        assert_eq!(refused(listener.close()), (3, length));
+        assert!(listener.has_answered());
+        assert_eq!(listener.feed(&EXCHANGE[length..]), 0);
+        assert_eq!(refused(listener.close()), (3, length));
+    }
+}
+
+#[test]
+fn short_buffers_leave_the_listener() {
+    let (mut command, mut reply_1, mut reply_2) =
+        ([FILL; COMMAND_ROOM], [FILL; REPLY_ROOM], [FILL; REPLY_ROOM]);
+    let mut listener = Listener::default();
+    for byte in EXCHANGE.chunks(1) {
+        for (first, second, third) in [(21, 18, 18), (22, 17, 18), (22, 18, 17), (0, 0, 0)] {
+            let closed = listener.close_into(
+                &mut command[..first],
+                &mut reply_1[..second],
+                &mut reply_2[..third],
+            );
+            assert_eq!(refused(closed), (1, 0));
+        }
+        assert_eq!(listener.feed(byte), 1);
+    }
+    assert_eq!(command, [FILL; COMMAND_ROOM]);
+    assert_eq!((reply_1, reply_2), ([FILL; REPLY_ROOM], [FILL; REPLY_ROOM]));
+    let judged = listener.close_into(&mut command, &mut reply_1, &mut reply_2);
+    assert_eq!(judged, Ok(ebus::judge(&EXCHANGE).unwrap().judged()));
+    assert_eq!((&command[..7], &command[7..]), (COMMAND, &[FILL; 15][..]));
+    assert_eq!((&reply_1[..3], &reply_1[3..]), (REPLY, &[FILL; 15][..]));
+    assert_eq!(reply_2, [FILL; REPLY_ROOM]);
+}
+
+#[test]
+fn short_buffers_come_before_a_refusal_that_is_held() {
+    let (mut listener, used) = heard(&[&[0x12, 0x08]]);
+    assert_eq!((used, listener.has_answered()), (1, true));
+    let short = listener.close_into(&mut [0; 21], &mut [0; 18], &mut [0; 18]);
+    assert_eq!(refused(short), (1, 0));
+    assert_eq!(refused(listener.close()), (6, 0));
+}
+
+#[test]
+fn an_answer_is_given_again() {
+    let runs = [
+        COMMAND,
+        NACK,
+        COMMAND,
+        ACK,
+        REPLY_WRONG,
+        NACK,
+        REPLY,
+        ACK,
+        SYN,
+    ];
+    let (mut listener, used) = heard(&runs);
+    assert_eq!(used, runs.concat().len());
+    let exchange = listener.close().unwrap();
+    assert_eq!(exchange, ebus::judge(&runs.concat()).unwrap());
+    assert_eq!(exchange.reply(1), Some(REPLY_WRONG));
+    assert_eq!(exchange.reply(2), Some(REPLY));
+    assert_eq!(listener.feed(&EXCHANGE), 0);
+    assert_eq!(listener.close(), Ok(exchange));
+}
+
+#[test]
+fn a_broadcast_behind_a_nacked_command() {
+    let nacked = [COMMAND, NACK].concat();
+    let broadcast = [0x10, 0xFE, 0xB5, 0x05, 0x01, 0x18, 0xA9];
+    let within_escape = fed(&[(&nacked, 8), (&broadcast, 7)]);
+
+    let mut listener = within_escape.clone();
+    assert_eq!(listener.feed(&[0x01]), 1);
+    assert!(!listener.has_answered());
+    assert_eq!(refused(listener.clone().close()), (3, 16));
+    assert_eq!(listener.feed(&[0xAA, 0x10]), 1);
+    assert!(listener.has_answered());
+    let exchange = listener.close().unwrap();
+    assert_eq!(exchange.kind(), Kind::Broadcast);
+    assert_eq!(exchange.command_attempts(), 2);
+    assert_eq!(exchange.reply_attempts(), 0);
+    assert_eq!(exchange.bytes_read(), 17);
+    assert_eq!(
+        exchange.command(),
+        [0x10, 0xFE, 0xB5, 0x05, 0x01, 0x18, 0xAA]
+    );
+
+    for (byte, refusal) in [(0x00, (9, 14)), (0x55, (4, 15)), (0xAA, (5, 15))] {
+        let mut listener = within_escape.clone();
+        assert_eq!(listener.feed(&[byte]), 1);
+        assert!(listener.has_answered());
+        assert_eq!(listener.feed(&[0xAA, 0x10]), 0);
+        assert_eq!(refused(listener.close()), refusal, "{byte:02X}");
+    }
+}
+
+#[test]
+fn a_wrong_check_byte_waits_for_its_acknowledge_byte() {
+    let (mut command, mut reply_1, mut reply_2) =
+        ([FILL; COMMAND_ROOM], [FILL; REPLY_ROOM], [FILL; REPLY_ROOM]);
+    let mut listener = fed(&[(COMMAND_WRONG, 7), (&[], 0), (&[0x00, 0x01, 0x2A], 1)]);
+    let short = listener.close_into(&mut command, &mut reply_1, &mut reply_2[..17]);
+    assert_eq!(refused(short), (1, 0));
+    let closed = listener.close_into(&mut command, &mut reply_1, &mut reply_2);
+    assert_eq!(refused(closed), (9, 6));
+    assert_eq!(command, [FILL; COMMAND_ROOM]);
+    assert_eq!((reply_1, reply_2), ([FILL; REPLY_ROOM], [FILL; REPLY_ROOM]));
+    assert_eq!(listener.feed(&[0x01, 0x2A]), 0);
+    assert_eq!(refused(listener.close()), (9, 6));
+
+    let mut listener = fed(&[(COMMAND_WRONG, 7), (&[], 0)]);
+    assert_eq!(refused(listener.close()), (3, 7));
+    assert_eq!(listener.feed(ACK), 0);
+    assert_eq!(refused(listener.close()), (3, 7));
+}
+
+#[test]
+fn a_reply_is_nacked_between_runs() {
+    let first = [COMMAND, ACK, &[0x01, 0x2A, 0xB0]].concat();
+    let second = [NACK, REPLY, ACK].concat();
+    let mut listener = fed(&[(&first, 11), (&second, 5), (&[0xAA, 0xAA], 1)]);
+    let exchange = listener.close().unwrap();
+    assert_eq!(exchange.command_attempts(), 1);
+    assert_eq!(exchange.reply_attempts(), 2);
+    assert_eq!(exchange.bytes_read(), 17);
+    assert_eq!(exchange.reply(1), Some(&[0x01, 0x2A, 0xB0][..]));
+    assert_eq!(exchange.reply(2), Some(REPLY));
+
+    let mut listener = fed(&[(&first, 11), (&[0xFF, 0xA9], 2), (&[0x00, 0xAA], 1)]);
+    assert_eq!(refused(listener.close()), (8, 12));
+    let twice = [NACK, REPLY, NACK, ACK].concat();
+    let mut listener = fed(&[(&first, 11), (&twice, 5)]);
+    assert_eq!(refused(listener.close()), (11, 15));
+}
+
+#[test]
+fn wrong_bytes_at_the_start_of_a_command() {
+    let cases: [(&[Used], Named); 5] = [
+        (&[(&[0xA9], 1), (&[0x01], 1)], (6, 0)),
+        (&[(&[0x02, 0xAA], 1)], (6, 0)),
+        (&[(&[0x10, 0xA9], 2), (&[0x00, 0x55], 1)], (7, 1)),
+        (&[(&[0x10, 0xA9], 2), (&[0xAA], 1)], (5, 2)),
+        (&[(&[0x10, 0x08, 0xB5, 0x11, 0x11, 0x00], 5)], (8, 4)),
+    ];
+    for (runs, refusal) in cases {
+        let mut listener = fed(runs);
+        assert!(listener.has_answered());
+        assert_eq!(refused(listener.close()), refusal, "{runs:02X?}");
+    }
+}
+
+#[test]
+fn a_clone_goes_on_by_itself() {
+    let (mut listener, _) = heard(&[COMMAND]);
+    let mut other = listener.clone();
+    assert_eq!(listener.feed(&[0x55]), 1);
+    assert_eq!(other.feed(&EXCHANGE[7..]), 6);
+    assert_eq!(refused(listener.close()), (12, 7));
+    assert_eq!(other.close(), ebus::judge(&EXCHANGE));
+}
+
+// ---- eBUS: states of listening made by hand ---------------------------------
+
+/// So many bytes of a recording are used at most.
+const MOST_USED: usize = 0x8000_0000;
+
+/// A state that has heard nothing.
+fn fresh() -> sys::Listening {
+    // SAFETY: no pointer is handed over.
+    unsafe { sys::moor_listen() }
+}
+
+/// A state of which one more byte is used. Before it was a command to 08, and
+/// its number and place mean nothing, since it has not answered.
+fn one_byte_left(due: u8) -> sys::Listening {
+    let mut state = sys::Listening {
+        start: MOST_USED - 1,
+        place: 9,
+        due,
+        number: 7,
+        command_attempts: 1,
+        ..fresh()
+    };
+    state.kept[1] = 0x08;
+    state
+}
+
+/// The state that a run makes of another, and how many of its bytes are used.
+fn feed(state: sys::Listening, run: &[u8]) -> (sys::Listening, usize) {
+    // SAFETY: the pointer comes with its length.
+    let fed = unsafe { sys::moor_feed(state, run.as_ptr(), run.len()) };
+    (fed.state, fed.used)
+}
+
+fn has_answered(state: sys::Listening) -> bool {
+    // SAFETY: no pointer is handed over.
+    unsafe { sys::moor_has_answered(state) }
+}
+
+/// Closes a state into buffers of which the second reply's has this length.
+/// None of the three changes: no telegram is kept.
+fn close_within(state: sys::Listening, room: usize) -> sys::Closed {
+    let (mut command, mut reply_1, mut reply_2) =
+        ([FILL; COMMAND_ROOM], [FILL; REPLY_ROOM], [FILL; REPLY_ROOM]);
+    let lent = &mut reply_2[..room];
+    // SAFETY: each pointer comes with its length, and the buffers lie apart.
+    let closed = unsafe {
+        sys::moor_close(
+            state,
+            command.as_mut_ptr(),
+            command.len(),
+            reply_1.as_mut_ptr(),
+            reply_1.len(),
+            lent.as_mut_ptr(),
+            lent.len(),
+        )
+    };
+    assert_eq!(command, [FILL; COMMAND_ROOM]);
+    assert_eq!((reply_1, reply_2), ([FILL; REPLY_ROOM], [FILL; REPLY_ROOM]));
+    closed
+}
+
+/// Closes a state into buffers with room enough. It has then answered, and
+/// gives the same again.
+fn close(state: sys::Listening) -> sys::Judged {
+    let closed = close_within(state, REPLY_ROOM);
+    assert!(has_answered(closed.state));
+    assert_eq!(close_within(closed.state, REPLY_ROOM), closed);
+    closed.judged
+}
+
+/// A refusal as the C interface has it.
+fn refusal(number: u8, place: usize) -> sys::Judged {
+    sys::Judged {
+        number,
+        kind: 0,
+        command_attempts: 0,
+        reply_attempts: 0,
+        place,
+        read: 0,
+    }
+}
+
+#[test]
+fn a_closing_that_is_too_short_gives_back_the_state() {
+    let (state, used) = feed(fresh(), &[COMMAND_WRONG, ACK].concat());
+    assert_eq!(used, 8);
+    let short = close_within(state, REPLY_ROOM - 1);
+    assert_eq!((short.judged, short.state), (refusal(1, 0), state));
+    assert_eq!(close(state), refusal(9, 6));
+}
+
+#[test]
+fn the_last_byte_that_is_used_decides() {
+    let (state, used) = feed(one_byte_left(4), &[0xAA, 0xAA]);
+    assert_eq!((used, has_answered(state)), (1, true));
+    let accepted = sys::Judged {
+        kind: sys::MOOR_INITIATOR_TARGET,
+        command_attempts: 1,
+        read: MOST_USED,
+        ..refusal(0, 0)
+    };
+    assert_eq!(close(state), accepted);
+
+    let (state, used) = feed(one_byte_left(4), &[0x55]);
+    assert_eq!((used, has_answered(state)), (1, true));
+    assert_eq!(close(state), refusal(12, MOST_USED - 1));
+}
+
+#[test]
+fn nothing_is_used_behind_the_last_byte() {
+    let (state, used) = feed(one_byte_left(0), &[0x10, 0x08]);
+    assert_eq!((used, has_answered(state)), (1, false));
+    assert_eq!(feed(state, &[0x08]), (state, 0));
+    assert_eq!(close(state), refusal(3, MOST_USED));
+
+    let state = sys::Listening {
+        start: usize::MAX,
+        ..fresh()
+    };
+    assert_eq!(feed(state, &EXCHANGE), (state, 0));
+    assert_eq!(close(state), refusal(3, MOST_USED));
+}
+
+#[test]
+fn at_most_45_bytes_are_in_hand() {
+    let state = sys::Listening {
+        due: 4,
+        held: 0xFF,
+        ..fresh()
+    };
+    let (state, used) = feed(state, SYN);
+    assert_eq!((used, has_answered(state)), (1, true));
+    let accepted = sys::Judged {
+        kind: sys::MOOR_INITIATOR_INITIATOR,
+        read: 46,
+        ..refusal(0, 0)
+    };
+    assert_eq!(close(state), accepted);
+}
+
+#[test]
+fn a_wrong_source_in_hand_is_refused_by_the_next_byte() {
+    let mut state = sys::Listening { held: 1, ..fresh() };
+    state.raw[0] = 0x02;
+    assert_eq!(close(state), refusal(3, 1));
+    let (state, used) = feed(state, &[0x55]);
+    assert_eq!((used, state.start), (1, 2));
+    assert_eq!(close(state), refusal(6, 0));
 }
 
 // ---- Fast Modbus: frames ----------------------------------------------------

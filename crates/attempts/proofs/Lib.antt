@@ -3,3 +3,6 @@ pub mod FromRun
 pub mod AttemptRead
 pub mod ByTables
 pub mod LongerRun
+pub mod Looked
+pub mod Shifted
+pub mod Sized

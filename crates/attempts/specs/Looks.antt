@@ -13,7 +13,7 @@ use Rattle.telegram.specs.Telegram.{Telegram, read, unread, telegramAt}
 use Rattle.attempts.specs.Attempt.{unanswered}
 
 -- a fault of a field is known once its byte is whole, which takes two raw bytes where it is escaped; any other refusal at the
--- byte that it names
+-- byte that it names; of number 3 that is the one that is missing, behind the run's end
 abbrev pub knownBehind : List ℕ → Refusal → ℕ
 knownBehind run why = why .place + 1 + pick (leb sourceWrong (why .number)) (pick (eqb (getD run (why .place) 0) esc) 1 0) 0
 

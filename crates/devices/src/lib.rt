@@ -103,7 +103,7 @@ pub fn scan(
 ) -> Scanned
     ensures { λ r. ⌜ GivesScan (const ℕ) (scanCall cap (now («found_serials» .entry)) (now («found_addresses» .entry)) (columns (now (serials .entry)) (now (addresses .entry)) (now (marks .entry)))) r (now («found_serials» .exit)) (now («found_addresses» .exit)) (columns (now (serials .entry)) (now (addresses .entry)) (now (marks .exit))) ⌝ }
 {
-    let room = guard::smaller(found_serials.len(), found_addresses.len());
+    let room = lists::smaller(found_serials.len(), found_addresses.len());
     let ok = table::valid(serials, addresses, marks);
     let admitted = guard::admit(serials.len(), room, ok);
     match admitted {

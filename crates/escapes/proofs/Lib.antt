@@ -5,4 +5,6 @@ pub mod ExpandTurn
 pub mod LogicalBytes
 pub mod EscapeRoundTrip
 pub mod LongerRun
+pub mod Looked
+pub mod Shifted
 pub mod Worked

@@ -3,22 +3,26 @@
 use mathlib.Core.Path.{_≡_, sym, ap, _∙_, subst}
 use mathlib.Core.Bool.{true, false, _&&_}
 use mathlib.Core.List.{List}
+use mathlib.Core.Logic.{⊎-elim}
 use mathlib.Mathlib.Logic.Function.Defs.{id}
-use Prim.Native.Nat.{ℕ, _≤_}
+use Prim.Native.Nat.{ℕ, _≤_, _<_, min}
+use native.Mathlib.Omega.{arith}
 use lib.Dec.{leb}
+use lib.ListN.{length, take, length-take}
+use lib.Seq.{take-all}
 use borrow.Author.Tests.{le-leb, leb-true}
 use Rattle.lists.specs.Choice.{pick}
 use Rattle.refusal.specs.Number.{outputShort, at-place}
 use Rattle.lists.specs.Starting.{starting}
 use Rattle.refusal.specs.declared.Refusal.{Refusal}
-use Rattle.lists.proofs.Cases.{both, both-first, both-second}
+use Rattle.lists.proofs.Cases.{both, both-first, both-second, le-or-lt}
 use Rattle.addresses.specs.declared.ExchangeKind.{ExchangeKind}
 use Rattle.exchange.specs.declared.judge.Judged.{Judged}
 use Rattle.exchange.specs.declared.judge.Judged.the-variants.{Accepted, Refused}
 use Rattle.exchange.specs.declared.judge.Replies.{Replies as RepliesStruct}
 use Rattle.escapes.specs.Logical.{logicalsAt}
 use Rattle.telegram.specs.Telegram.{commandRoom, replyRoom}
-use Rattle.exchange.specs.Exchange.{Outcome, accepted, rejected, exchange, rooms, judged}
+use Rattle.exchange.specs.Exchange.{Outcome, accepted, rejected, exchange, limit, rooms, judged}
 use Rattle.exchange.specs.View.{answered, commandOf, firstOf, secondOf, Judges}
 use Rattle.exchange.specs.Inner.{outcomeAs, repliesOf}
 
@@ -41,14 +45,26 @@ module _ (command first second : ℕ) where
   module _ (run : List ℕ) where
     pub judged-short : rooms command first second ≡ false → judged run command first second ≡ rejected (at-place outputShort 0)
     unfolding judged
-    judged-short t = ap (λ b. pick b (exchange run) (rejected (at-place outputShort 0))) t
+    judged-short t = ap (λ b. pick b (exchange (take limit run)) (rejected (at-place outputShort 0))) t
 
-    pub judged-roomy : rooms command first second ≡ true → judged run command first second ≡ exchange run
+    pub judged-roomy : rooms command first second ≡ true → judged run command first second ≡ exchange (take limit run)
     unfolding judged
-    judged-roomy t = ap (λ b. pick b (exchange run) (rejected (at-place outputShort 0))) t
+    judged-roomy t = ap (λ b. pick b (exchange (take limit run)) (rejected (at-place outputShort 0))) t
 
-    pub room-enough : commandRoom ≤ command → replyRoom ≤ first → replyRoom ≤ second → judged run command first second ≡ exchange run
+    pub room-enough : commandRoom ≤ command → replyRoom ≤ first → replyRoom ≤ second → judged run command first second ≡ exchange (take limit run)
     room-enough c f s = judged-roomy (have-rooms c f s)
+
+-- ---- the bytes that are read
+
+-- as many as there are, and no more than the limit
+module _ (run : List ℕ) (n : ℕ) (is : n ≡ min (length run) limit) where
+  pub read-length : n ≡ length (take n run)
+  read-length = omega (arith, is, length-take n run)
+
+  pub read-part : take n run ≡ take limit run
+  read-part =
+      ⊎-elim (λ (h : length run ≤ limit). take-all n run (omega arith) ∙ sym (take-all limit run h)) (λ (h : limit < length run). ap (λ (k : ℕ). take k run) (let e : n ≡ limit = omega arith in e))
+      (le-or-lt (length run) limit)
 
 -- ---- the buffers afterwards
 

@@ -5,7 +5,7 @@ use Prim.Native.Nat.{ℕ, _+_}
 use mathlib.Core.Bool.{Bool, true, false, _&&_}
 use mathlib.Core.List.{List, []}
 use lib.Dec.{eqb, ltb, leb}
-use lib.ListN.{length, getD}
+use lib.ListN.{length, getD, take}
 use Rattle.lists.specs.Choice.{pick}
 use Rattle.refusal.specs.Number.{outputShort, commandNacked, replyNacked, busError, at-place}
 use Rattle.refusal.specs.declared.Refusal.{Refusal}
@@ -94,6 +94,10 @@ exchange run = exchangeAt run 0
 unfoldable pub rooms : ℕ → ℕ → ℕ → Bool
 rooms command first second = leb commandRoom command && (leb replyRoom first && leb replyRoom second)
 
--- number 1 before the first byte is looked at, and then the exchange
+-- rule E20: the most raw bytes that are read of a recording, at once or as they arrive
+abbrev pub limit : ℕ
+limit = 0x80000000
+
+-- number 1 before the first byte is looked at, and then the exchange, as if the run ended behind the bytes that are read
 unfoldable pub judged : List ℕ → ℕ → ℕ → ℕ → Outcome
-judged run command first second = pick (rooms command first second) (exchange run) (rejected (at-place outputShort 0))
+judged run command first second = pick (rooms command first second) (exchange (take limit run)) (rejected (at-place outputShort 0))

@@ -1,4 +1,4 @@
-// The judge: a recorded exchange is accepted exactly when the rules accept it (E12 to E16).
+// The judge: a recorded exchange is accepted exactly when the rules accept it (E12 to E16, and E20).
 //
 // The run is read twice: first to judge it, with nothing stored, and once it is accepted to put the
 // telegrams' bytes into the three buffers. So a refusal leaves them as they were.
@@ -19,7 +19,7 @@ ghost use mathlib.Core.Path.{_≡_};
 ghost use mathlib.Core.Bool.{true, false};
 ghost use mathlib.Mathlib.Logic.Function.Defs.{id};
 ghost use mathlib.Core.List.{List, []};
-ghost use Prim.Native.Nat.{ℕ, _≤_};
+ghost use Prim.Native.Nat.{ℕ, _≤_, min};
 ghost use lib.ListN.{length};
 ghost use Rattle.refusal.specs.Number.{outputShort, at-place};
 ghost use Rattle.escapes.specs.Logical.{logicalsAt};
@@ -27,9 +27,12 @@ ghost use Rattle.addresses.specs.Address.{kindOf};
 ghost use Rattle.checkbyte.specs.BitByBit.{EbusTables};
 ghost use Rattle.telegram.specs.Telegram.{replyRoom};
 ghost use Rattle.attempts.specs.View.{Ready};
-ghost use Rattle.exchange.specs.Exchange.{synAt, rejected, onEnd, onReply, onKind, triesAt, exchangeAt, rooms, judged};
+ghost use Rattle.exchange.specs.Exchange.{synAt, rejected, onEnd, onReply, onKind, triesAt, exchangeAt, limit, rooms, judged};
 ghost use Rattle.exchange.specs.View.{answered, Judges};
 ghost use Rattle.exchange.specs.Inner.{repliesOf};
+
+// The most raw bytes that are read of a recording, at once or as they arrive.
+pub const LIMIT: usize = 0x80000000;
 
 // What a recorded exchange is: its kind, the attempts at command and reply, and the raw bytes read,
 // SYN included; or why it is refused.
@@ -167,7 +170,7 @@ fn too_short() -> Judged
 }
 
 // Whether buffers of these lengths have the room that is asked of them.
-fn have_room(command: usize, first: usize, second: usize) -> bool
+pub fn have_room(command: usize, first: usize, second: usize) -> bool
     ensures { λ r. ⌜ r ≡ rooms command first second ⌝ }
 {
     if command < COMMAND_ROOM {
@@ -213,15 +216,27 @@ fn judge_at(
     }
 }
 
+// How many bytes of a run are read.
+fn read_of(n: usize) -> usize
+    ensures { λ r. ⌜ r ≡ min n limit ⌝ }
+{
+    if n < LIMIT {
+        return n;
+    }
+    LIMIT
+}
+
 // Judges a recorded run from its start: accepted with kind, attempts and raw bytes read, or refused
 // with its number and place. The buffers hold at least 22, 18 and 18 bytes, else number 1.
-// On success the command buffer starts with the accepted command, the reply buffers with the
-// attempts that happened, and all other bytes stay; on a refusal all three keep their bytes.
+// At most 2^31 bytes are read, as if the run ended there. On success the command buffer starts with
+// the accepted command, the reply buffers with the attempts that happened, and all other bytes stay;
+// on a refusal all three keep their bytes.
 pub fn judge(run: &[u8], command: &mut [u8], reply_1: &mut [u8], reply_2: &mut [u8]) -> Judged
     ensures { λ r. ⌜ Judges id (judged (now (run .entry)) (length (now (command .entry))) (length (now («reply_1» .entry))) (length (now («reply_2» .entry)))) r (now (command .entry)) (now (command .exit)) (now («reply_1» .entry)) (now («reply_1» .exit)) (now («reply_2» .entry)) (now («reply_2» .exit)) ⌝ }
 {
     if !have_room(command.len(), reply_1.len(), reply_2.len()) {
         return too_short();
     }
-    judge_at(run, 0, command, reply_1, reply_2)
+    let n = read_of(run.len());
+    judge_at(&run[..n], 0, command, reply_1, reply_2)
 }

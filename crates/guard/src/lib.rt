@@ -3,20 +3,12 @@ use refusal::OUTPUT_SHORT;
 use refusal::Refusal;
 use refusal::TABLE_NOT_VALID;
 ghost use mathlib.Core.Path.{_≡_};
-ghost use Prim.Native.Nat.{min};
 ghost use Rattle.guard.specs.Guard.{guard};
 
 // What the guard finds.
 pub enum Guard {
     Passed,
     Refused(Refusal),
-}
-
-// The smaller of two lengths: the room that a call with two outputs has.
-pub fn smaller(a: usize, b: usize) -> usize
-    ensures { λ r. ⌜ r ≡ min a b ⌝ }
-{
-    if a <= b { a } else { b }
 }
 
 // Number 1 where the lent outputs have less room than is needed, then number 2 where what the call

@@ -11,6 +11,7 @@ use crate::fault::UNKNOWN_COMMAND;
 use crate::help;
 use crate::hex;
 use crate::hex::BytesRead;
+use crate::listening_commands;
 use crate::modbus_commands;
 use crate::number::NumberRead;
 use crate::number::last_number;
@@ -38,15 +39,15 @@ pub(crate) fn answer(line: &[u8], d: Desk) -> Desk {
 // and of those with words of their own. A command's number is the place of its name in this list.
 fn by_name(name: &[u8], line: &[u8], at: usize, d: Desk) -> Desk {
     let command = word::place(
-        b"ebus-check expand undo judge write-reply modbus-check read-request read-answer
-write-end forget table start continue help
+        b"ebus-check expand undo judge write-reply modbus-check read-request read-answer feed
+write-end forget table start continue listen close help
 kind write-command write-request write-found device offer scan room",
         name,
     );
-    if command < 8 {
+    if command < 9 {
         return on_bytes(command, line, at, d);
     }
-    if command < 14 {
+    if command < 17 {
         return alone(command, line, at, d);
     }
     with_words(command, line, at, d)
@@ -58,6 +59,9 @@ fn on_bytes(command: usize, line: &[u8], at: usize, d: Desk) -> Desk {
     match read {
         BytesRead::Bytes(n) => {
             let input = start_of(&store, n);
+            if command == 8 {
+                return listening_commands::feed(input, d);
+            }
             d.with_page(with_bytes(command, input, d.room, d.page))
         }
         BytesRead::Wrong(why) => d.wrong(why),
@@ -82,25 +86,27 @@ fn alone(command: usize, line: &[u8], at: usize, d: Desk) -> Desk {
         return extra(line, at, d);
     }
     match command {
-        8 => d.with_page(modbus_commands::write_end(d.room, d.page)),
-        9 => ok(d.with_table(no_rows())),
-        10 => device_commands::show(d),
-        11 => device_commands::request(Asked::Start, d),
-        12 => device_commands::request(Asked::Continue, d),
+        9 => d.with_page(modbus_commands::write_end(d.room, d.page)),
+        10 => ok(d.with_table(no_rows())),
+        11 => device_commands::show(d),
+        12 => device_commands::request(Asked::Start, d),
+        13 => device_commands::request(Asked::Continue, d),
+        14 => ok(d.with_listening(listening::listen(), d.page)),
+        15 => listening_commands::close(d),
         _ => d.with_page(help::commands(d.page)),
     }
 }
 
 fn with_words(command: usize, line: &[u8], at: usize, d: Desk) -> Desk {
     match command {
-        14 => ebus_commands::kind(line, at, d),
-        15 => ebus_commands::write_command(line, at, d),
-        16 => modbus_commands::write_request(line, at, d),
-        17 => modbus_commands::write_found(line, at, d),
-        18 => device_commands::device(line, at, d),
-        19 => device_commands::offer(line, at, d),
-        20 => device_commands::scan(line, at, d),
-        21 => room(line, at, d),
+        17 => ebus_commands::kind(line, at, d),
+        18 => ebus_commands::write_command(line, at, d),
+        19 => modbus_commands::write_request(line, at, d),
+        20 => modbus_commands::write_found(line, at, d),
+        21 => device_commands::device(line, at, d),
+        22 => device_commands::offer(line, at, d),
+        23 => device_commands::scan(line, at, d),
+        24 => room(line, at, d),
         _ => unknown(line, d),
     }
 }

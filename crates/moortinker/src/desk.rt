@@ -3,6 +3,7 @@ use crate::fault;
 use crate::fault::Fault;
 use crate::say;
 use crate::say::Page;
+use listening::Listening;
 
 // Every output has room for what a line of 8,192 bytes expands to.
 pub(crate) const FULL: usize = 16384;
@@ -26,6 +27,7 @@ pub(crate) struct Table {
 
 pub(crate) struct Desk {
     pub(crate) table: Table,
+    pub(crate) listening: Listening,
     // What was answered and is not written out yet.
     pub(crate) page: Page,
     // How many bytes, or entries of a list, each lent output has.
@@ -59,6 +61,7 @@ impl Table {
 pub(crate) fn new() -> Desk {
     Desk {
         table: no_rows(),
+        listening: listening::listen(),
         page: say::empty(),
         room: FULL,
         line: 1,
@@ -68,8 +71,10 @@ pub(crate) fn new() -> Desk {
 impl Desk {
     pub(crate) fn with_page(self, page: Page) -> Desk {
         let table = self.table;
+        let listening = self.listening;
         Desk {
             table,
+            listening,
             page,
             room: self.room,
             line: self.line,
@@ -82,9 +87,23 @@ impl Desk {
     }
 
     pub(crate) fn with_table(self, table: Table) -> Desk {
+        let listening = self.listening;
         let page = self.page;
         Desk {
             table,
+            listening,
+            page,
+            room: self.room,
+            line: self.line,
+        }
+    }
+
+    // The state that a command on it left, and what it said.
+    pub(crate) fn with_listening(self, listening: Listening, page: Page) -> Desk {
+        let table = self.table;
+        Desk {
+            table,
+            listening,
             page,
             room: self.room,
             line: self.line,

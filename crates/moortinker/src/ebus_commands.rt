@@ -87,7 +87,7 @@ pub(crate) fn judge(run: &[u8], room: usize, page: Page) -> Page {
     )
 }
 
-fn say_judged<'a>(
+pub(crate) fn say_judged<'a>(
     judged: Judged,
     command: &'a [u8],
     first: &'a [u8],

@@ -25,6 +25,9 @@ pub(crate) fn commands(page: Page) -> Page {
   undo HEX              raw bytes with their escapes undone
   kind BYTE             kind of an exchange with this destination
   judge HEX             judge a recorded exchange
+  listen                start listening to an exchange
+  feed HEX              feed the next run of its bytes
+  close                 end it: what judge says of the bytes used
   write-command BYTE BYTE BYTE BYTE HEX
                         write a command: SRC DST PB SB data
   write-reply HEX       write a reply with this data

@@ -8,6 +8,7 @@ mod fault;
 mod help;
 mod hex;
 mod line;
+mod listening_commands;
 mod modbus_commands;
 mod names;
 mod number;

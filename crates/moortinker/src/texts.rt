@@ -65,6 +65,10 @@ pub(crate) const NOBODY: u8 = 29;
 
 pub(crate) const UNFINISHED: u8 = 30;
 
+pub(crate) const USED_LISTENING: u8 = 31;
+
+pub(crate) const USED_ANSWERED: u8 = 32;
+
 pub(crate) fn text(page: Page, number: u8, numbers: Numbers) -> Page {
     numbered(
         page,
@@ -98,6 +102,8 @@ pub(crate) fn text(page: Page, number: u8, numbers: Numbers) -> Page {
 28 Complete, # requests|
 29 Nobody, # requests|
 30 Unfinished, # requests|
+31 used #, listening|
+32 used #, answered|
 ",
         number,
         numbers,

@@ -35,7 +35,7 @@ fn number_of(kind: ExchangeKind) -> u8 {
 
 // What is due for a run: 0 with the kind, the attempts and how many bytes are read where it is
 // accepted, or the number and place of its refusal.
-struct Answer {
+pub(crate) struct Answer {
     number: u8,
     kind: u8,
     commands: u8,
@@ -43,8 +43,28 @@ struct Answer {
     at: usize,
 }
 
+// What is due where this is the answer.
+pub(crate) fn due_of(j: Judged) -> Answer {
+    match j {
+        Judged::Accepted(k, commands, replies, at) => Answer {
+            number: 0,
+            kind: number_of(k),
+            commands,
+            replies,
+            at,
+        },
+        Judged::Refused(why) => Answer {
+            number: why.number,
+            kind: 0,
+            commands: 0,
+            replies: 0,
+            at: why.place,
+        },
+    }
+}
+
 // Whether the answer is what is due.
-fn answered(j: Judged, due: Answer) -> bool {
+pub(crate) fn answered(j: Judged, due: Answer) -> bool {
     match j {
         Judged::Accepted(k, c, r, n) => {
             due.number == 0

@@ -76,6 +76,14 @@ pub(crate) fn start(list: &[u8], n: usize) -> &[u8] {
     list
 }
 
+// The bytes from the nth on, or none where there are fewer.
+pub(crate) fn rest(list: &[u8], n: usize) -> &[u8] {
+    if n <= list.len() {
+        return &list[n..];
+    }
+    start(list, 0)
+}
+
 // The first n bytes, to be written to.
 pub(crate) fn lent(out: &mut [u8], n: usize) -> &mut [u8] {
     if n <= out.len() {

@@ -5,6 +5,7 @@ mod checks;
 mod escaping;
 mod exchanges;
 mod frames;
+mod hearing;
 mod lines;
 mod scans;
 mod tally;
@@ -14,6 +15,7 @@ fn main() {
     say_escapes();
     say_recorded();
     say_made();
+    say_heard();
     say_scans();
 }
 
@@ -44,6 +46,12 @@ fn say_made() {
     exchanges::each_value(4, 13).say(b"exchanges, each LEN");
     exchanges::each_value(7, 8).say(b"exchanges, each byte after a command");
     exchanges::each_value(11, 12).say(b"exchanges, each byte after a reply");
+}
+
+fn say_heard() {
+    hearing::every_two_cuts().say(b"listening, every two cuts");
+    hearing::every_prefix().say(b"listening, every prefix");
+    hearing::one_by_one().say(b"listening, one byte a run");
 }
 
 fn say_scans() {

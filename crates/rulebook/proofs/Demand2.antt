@@ -2,12 +2,13 @@
 -- Assumes nothing.
 use mathlib.Core.Path.{_≡_, refl, sym, ap, _∙_, subst}
 use mathlib.Core.Bool.{Bool, true, false}
-use mathlib.Core.List.{List, []}
+use mathlib.Core.List.{List, [], _++_, append-assoc}
 use mathlib.Mathlib.Logic.Function.Defs.{id}
-use Prim.Native.Nat.{ℕ, _≤_, _<_}
+use Prim.Native.Nat.{ℕ, _+_, _-_, _≤_, _<_}
 use native.Mathlib.Omega.{arith}
 use lib.Dec.{ltb}
-use lib.ListN.{length, drop}
+use lib.ListN.{length, take, drop, take-append-drop}
+use lib.Seq.{take-append-add}
 use borrow.Author.Tests.{le-leb, lt-ltb, ltb-true}
 use Rattle.lists.specs.Choice.{pick}
 use Rattle.lists.proofs.Cases.{by-test}
@@ -24,7 +25,7 @@ use Rattle.addresses.specs.Address.{initiator, reserved}
 use Rattle.addresses.specs.declared.ExchangeKind.{ExchangeKind}
 use Rattle.telegram.specs.Telegram.{longest, commandRoom, replyRoom}
 use Rattle.sending.specs.Sending.{commandOutput, replyOutput}
-use Rattle.exchange.specs.Exchange.{Outcome, accepted, rejected, exchangeAt, exchange, rooms, judged}
+use Rattle.exchange.specs.Exchange.{Outcome, accepted, rejected, exchangeAt, exchange, limit, rooms, judged}
 use Rattle.replies.specs.Data.{replyData}
 use Rattle.exchange.specs.View.{answered, commandOf, firstOf, secondOf, Judges}
 use Rattle.exchange.specs.declared.judge.Judged.{Judged}
@@ -41,6 +42,7 @@ use Rattle.answers.proofs.RoundTrip.{found-read-back, end-read-back, found-exac
 use Rattle.rulebook.specs.ReadBack.{commandBytes, replyBytes, Before, nothing, nacked-once, attemptsOf, firstTried, secondTried}
 use Rattle.rulebook.specs.Demand2.{Stands, Filled, Shown, BusDemand, FrameDemand, Demand2}
 use Rattle.rulebook.proofs.RuleBook.{rules-accepted, accepted-by-rules}
+use Rattle.rulebook.proofs.WireLength.{lengths}
 use Rattle.rulebook.proofs.DataShown.{data-shown, first-shows, second-shows}
 use Rattle.rulebook.proofs.WrittenRead.{command-written, command-form, command-right, reply-written, reply-form, reply-right, broadcast-on-wire, initiators-on-wire, target-on-wire}
 
@@ -59,15 +61,39 @@ module _ (run : List ℕ) (at : ℕ) (kind : ExchangeKind) (a b n : ℕ) (comman
 
 -- ---- the judge
 
+-- what stands at the start of the bytes that are read stands at the start of the run, and the other way round
+module _ (run : List ℕ) (kind : ExchangeKind) (a b n : ℕ) (command first second : List ℕ) where
+  stands-longer : Stands (take limit run) 0 kind a b n command first second → Stands run 0 kind a b n command first second
+  stands-longer s =
+      record {
+        raw = s .raw;
+        rest = s .rest ++ drop limit run;
+        by-rules = s .by-rules;
+        there = sym (take-append-drop limit run) ∙ ap (λ (l : List ℕ). l ++ drop limit run) (s .there) ∙ append-assoc (s .raw) (s .rest) (drop limit run);
+        ends = s .ends;
+      }
+
+  stands-read : Stands run 0 kind a b n command first second → Stands (take limit run) 0 kind a b n command first second
+  stands-read s =
+      let left = limit - length (s .raw) in
+      let all : limit ≡ length (s .raw) + left = omega (arith, lengths .exchange-at-most kind a b command first second (s .raw) (s .by-rules)) in
+      record {
+        raw = s .raw;
+        rest = take left (s .rest);
+        by-rules = s .by-rules;
+        there = ap (take limit) (s .there) ∙ ap (λ (k : ℕ). take k (s .raw ++ s .rest)) all ∙ take-append-add (s .raw) (s .rest) left;
+        ends = s .ends;
+      }
+
 -- what is accepted passed the rooms
 behind-rooms : (run : List ℕ) (c f s : ℕ) (kind : ExchangeKind) (a b n : ℕ) (command first second : List ℕ)
-    → judged run c f s ≡ accepted kind a b n command first second → exchange run ≡ accepted kind a b n command first second
+    → judged run c f s ≡ accepted kind a b n command first second → exchange (take limit run) ≡ accepted kind a b n command first second
 unfolding judged
 behind-rooms run c f s kind a b n command first second e =
     by-test (rooms c f s)
-    (λ enough. sym (ap (λ (x : Bool). pick x (exchange run) (rejected (at-place outputShort 0))) enough) ∙ e)
+    (λ enough. sym (ap (λ (x : Bool). pick x (exchange (take limit run)) (rejected (at-place outputShort 0))) enough) ∙ e)
     (λ short. let wrong : rejected (at-place outputShort 0) ≡ accepted kind a b n command first second =
-    sym (ap (λ (x : Bool). pick x (exchange run) (rejected (at-place outputShort 0))) short) ∙ e in
+    sym (ap (λ (x : Bool). pick x (exchange (take limit run)) (rejected (at-place outputShort 0))) short) ∙ e in
     let z : _≡_ {A = ℕ} 0 1 = cc in let g : ⊥ = omega arith in absurd g)
 
 module _ (run c f s : List ℕ) (r : Judged) (c′ f′ s′ : List ℕ)
@@ -88,7 +114,7 @@ module _ (run c f s : List ℕ) (r : Judged) (c′ f′ s′ : List ℕ)
       → (r ≡ Accepted kind a b n) × Filled command first second c f s c′ f′ s′ × Shown b first second f′ s′
   takes c-room f-room s-room kind a b n command first second stands =
       let given = answers (accepted kind a b n command first second)
-      (room-enough (length c) (length f) (length s) run c-room f-room s-room ∙ stands-accepted run 0 kind a b n command first second stands) in (
+      (room-enough (length c) (length f) (length s) run c-room f-room s-room ∙ stands-accepted (take limit run) 0 kind a b n command first second (stands-read run kind a b n command first second stands)) in (
         given .0,
         given .1,
         subst (λ (x : List ℕ). Shown b first second x s′) (sym (given .1 .first-buffer))
@@ -104,7 +130,7 @@ module _ (run c f s : List ℕ) (r : Judged) (c′ f′ s′ : List ℕ)
       by (accepted kind′ a′ b′ n′ command first second) e =
           let given = answers (accepted kind′ a′ b′ n′ command first second) e .0 in
           let same : accepted kind′ a′ b′ n′ command first second ≡ accepted kind a b n command first second = cc in
-          (command, first, second, accepted-stands run 0 kind a b n command first second (behind-rooms run (length c) (length f) (length s) kind a b n command first second (e ∙ same)))
+          (command, first, second, stands-longer run kind a b n command first second (accepted-stands (take limit run) 0 kind a b n command first second (behind-rooms run (length c) (length f) (length s) kind a b n command first second (e ∙ same))))
       by (rejected why) e =
           let given = answers (rejected why) e .0 in
           let z : _≡_ {A = ℕ} 0 1 = cc in

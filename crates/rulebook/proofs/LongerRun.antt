@@ -1,5 +1,5 @@
 -- A longer run: an answer other than number 3 on a run is the answer on every longer run, and a run that is refused with 3 has no
--- shorter prefix with another answer. A judge that is fed byte by byte rests on this.
+-- shorter prefix with another answer.
 -- Assumes nothing.
 use mathlib.Core.Path.{_≡_, refl, sym, ap, _∙_, subst}
 use mathlib.Core.Bool.{Bool, true, false}
@@ -10,18 +10,18 @@ use native.Mathlib.Omega.{arith}
 use lib.Dec.{eqb}
 use lib.ListN.{length}
 use Rattle.lists.specs.Choice.{pick}
-use Rattle.refusal.specs.Number.{outputShort, runEnded, busError, at-place}
+use Rattle.refusal.specs.Number.{runEnded, busError, at-place}
 use Rattle.lists.proofs.Cases.{pick-cases}
 use Rattle.escapes.specs.Escape.{syn}
 use Rattle.escapes.specs.Logical.{runOver}
-use Rattle.escapes.proofs.LongerRun.{Stays, OtherRefusal, stays-same, stays-on, stays-pick, stays-byte}
+use Rattle.escapes.proofs.LongerRun.{Stays, OtherRefusal, stays-same, stays-on, stays-byte}
 use Rattle.addresses.specs.declared.ExchangeKind.{ExchangeKind}
 use Rattle.addresses.specs.declared.ExchangeKind.the-variants.{Broadcast, InitiatorInitiator, InitiatorTarget}
 use Rattle.addresses.specs.Address.{kindOf}
 use Rattle.telegram.specs.Telegram.{destinationOf}
 use Rattle.attempts.specs.Attempt.{Attempt, taken, nacked, failed, attemptAt}
 use Rattle.attempts.proofs.LongerRun.{OtherAttempt, attempt-stays}
-use Rattle.exchange.specs.Exchange.{Tries, once, twice, neither, nackedTwice, onSecond, onFirst, triesAt, End, ended, open-still, synAt, Outcome, accepted, rejected, onEnd, onReply, onKind, onCommand, exchangeAt, exchange, rooms, judged}
+use Rattle.exchange.specs.Exchange.{Tries, once, twice, neither, nackedTwice, onSecond, onFirst, triesAt, End, ended, open-still, synAt, Outcome, accepted, rejected, onEnd, onReply, onKind, onCommand, exchangeAt}
 
 -- ---- no refusal with number 3, for each kind of answer
 
@@ -116,15 +116,6 @@ module _ (run more : List ℕ) where
       stays-on OtherTries OtherOutcome (onCommand run) (onCommand (run ++ more)) (neither (runOver run))
       (triesAt true run at) (triesAt true (run ++ more) at) by-command (tries-stay true at)
 
--- "a lent output is shorter than stated" is number 1, on every run
-pub judged-stays : (run more : List ℕ) (command first second : ℕ)
-    → Stays OtherOutcome (rejected (runOver run)) (judged run command first second) (judged (run ++ more) command first second)
-unfolding judged
-judged-stays run more command first second =
-    let short = rejected (at-place outputShort 0) in
-    stays-pick OtherOutcome (rejected (runOver run)) (exchange run) (exchange (run ++ more)) short short (rooms command first second) (exchange-stays run more 0)
-    (stays-same OtherOutcome (rejected (runOver run)) short (λ e. omega arith))
-
 -- ---- what it says, of anything that stays
 
 abbrev placeOf : Outcome → ℕ
@@ -170,22 +161,3 @@ three-before run more at place e = same-before (λ r. exchangeAt r at) (λ r m. 
 -- a refusal with number 3 is placed at the run's length
 pub three-place : (run : List ℕ) (at place : ℕ) → exchangeAt run at ≡ rejected (at-place runEnded place) → place ≡ length run
 three-place run at place e = at-end (λ r. exchangeAt r at) (λ r m. exchange-stays r m at) run place e
-
--- ---- of the judge, with any rooms
-
-module _ (command first second : ℕ) where
-  pub judged-longer : (run more : List ℕ)
-      → (judged run command first second ≡ rejected (runOver run))
-      ⊎ (judged (run ++ more) command first second ≡ judged run command first second)
-  judged-longer run more = either (λ r. judged r command first second) (λ r m. judged-stays r m command first second) run more
-
-  pub judged-answer-stays : (run more : List ℕ) → ((place : ℕ) → judged run command first second ≡ rejected (at-place runEnded place) → ⊥)
-      → judged (run ++ more) command first second ≡ judged run command first second
-  judged-answer-stays run more other = same-later (λ r. judged r command first second) (λ r m. judged-stays r m command first second) run more other
-
-  pub judged-three-before : (run more : List ℕ) (place : ℕ) → judged (run ++ more) command first second ≡ rejected (at-place runEnded place)
-      → judged run command first second ≡ rejected (runOver run)
-  judged-three-before run more place e = same-before (λ r. judged r command first second) (λ r m. judged-stays r m command first second) run more place e
-
-  pub judged-three-place : (run : List ℕ) (place : ℕ) → judged run command first second ≡ rejected (at-place runEnded place) → place ≡ length run
-  judged-three-place run place e = at-end (λ r. judged r command first second) (λ r m. judged-stays r m command first second) run place e

@@ -3,21 +3,23 @@
 use mathlib.Core.Path.{_≡_, refl, sym, ap, subst}
 use mathlib.Core.Bool.{Bool, true, false}
 use mathlib.Core.List.{List, [], _∷_, _++_}
-use Prim.Native.Nat.{ℕ, suc, _+_, _≤_}
+use Prim.Native.Nat.{ℕ, suc, _+_, _*_, _≤_}
 use native.Mathlib.Omega.{arith}
 use lib.ListN.{length, length-append}
 use Rattle.refusal.specs.Output.{bytes}
 use Rattle.crc.specs.Register.{step, enter, bits}
-use Rattle.escapes.specs.Escape.{escaped, expanded}
+use Rattle.escapes.specs.Escape.{syn, escaped, expanded}
 use Rattle.escapes.proofs.EscapeRoundTrip.{expanded-at-most}
+use Rattle.addresses.specs.declared.ExchangeKind.{ExchangeKind}
 use Rattle.addresses.specs.Address.{initiatorNibble, initiator, reserved}
 use Rattle.checkbyte.specs.Check.{ebusBytes, ebusCheck}
 use Rattle.telegram.specs.Telegram.{longest, read, telegramAt}
 use Rattle.telegram.proofs.TelegramOnWire.{stood}
 use Rattle.telegram.proofs.HeadJudged.{source-plain, destination-plain, length-plain}
+use Rattle.attempts.specs.Attempt.{ack, nack}
 use Rattle.sending.specs.Sending.{closed, commandOutput, replyOutput}
-use Rattle.rulebook.specs.Rules.{Form}
-use Rattle.rulebook.specs.Lengths.{longestOnWire, Lengths}
+use Rattle.rulebook.specs.Rules.{Form, Accepted, alone, acknowledged, Attempts, at-once, repeated, OnWire, broadcast, initiators, target}
+use Rattle.rulebook.specs.Lengths.{longestOnWire, longestExchange, Lengths}
 use Rattle.rulebook.specs.ReadBack.{commandBytes, replyBytes}
 use Rattle.rulebook.proofs.WholeForms.{form-of, one-longer}
 use Rattle.rulebook.proofs.WrittenRead.{command-written, command-form, reply-written, reply-form}
@@ -75,6 +77,26 @@ read-at-most command run at telegram checkPlace next e =
     let s = stood command run at telegram checkPlace next e in
     omega (arith, s .ends, form-at-most command telegram (form-of command telegram (s .whole)))
 
+-- ---- an exchange
+
+accepted-at-most : (command : Bool) (telegram raw : List ℕ) → Accepted command telegram raw → length raw ≤ longestOnWire command + 1
+accepted-at-most command telegram raw (alone form right to) = omega (arith, form-at-most command telegram form)
+accepted-at-most command telegram raw (acknowledged form right to) = omega (arith, form-at-most command telegram form, length-append (expanded telegram) (ack ∷ []))
+
+attempts-at-most : (command : Bool) (n : ℕ) (first second telegram raw : List ℕ) → Attempts command n first second telegram raw → length raw ≤ 2 * (longestOnWire command + 1)
+attempts-at-most command n first second telegram raw (at-once a) = omega (arith, accepted-at-most command telegram raw a)
+attempts-at-most command n first second telegram raw (repeated {raw = again} form to a) =
+    omega (arith, form-at-most command first form, accepted-at-most command telegram again a, length-append (expanded first) (nack ∷ []), length-append (expanded first ++ nack ∷ []) again)
+
+exchange-at-most : (kind : ExchangeKind) (commands replies : ℕ) (command first second raw : List ℕ) → OnWire kind commands replies command first second raw
+    → length raw ≤ longestExchange
+exchange-at-most kind commands replies command first second raw (broadcast {raw = sent} attempts is) =
+    omega (arith, attempts-at-most true _ _ _ _ _ attempts, length-append sent (syn ∷ []))
+exchange-at-most kind commands replies command first second raw (initiators {raw = sent} attempts is) =
+    omega (arith, attempts-at-most true _ _ _ _ _ attempts, length-append sent (syn ∷ []))
+exchange-at-most kind commands replies command first second raw (target {raw = sent} {raw′ = answered} attempts is answers) =
+    omega (arith, attempts-at-most true _ _ _ _ _ attempts, attempts-at-most false _ _ _ _ _ answers, length-append sent (answered ++ syn ∷ []), length-append answered (syn ∷ []))
+
 -- ---- both are reached: sixteen data bytes that need an escape, and a check byte that does, A9
 
 abbrev longestCommandData : List ℕ
@@ -103,6 +125,7 @@ lengths =
       command-at-most = command-at-most;
       reply-at-most = reply-at-most;
       read-at-most = read-at-most;
+      exchange-at-most = exchange-at-most;
       command-reaches = command-reaches;
       reply-reaches = reply-reaches;
     }

@@ -8,14 +8,19 @@ use lib.ListN.{length}
 use Rattle.lists.specs.Choice.{pick}
 use Rattle.refusal.specs.Output.{bytes}
 use Rattle.escapes.specs.Escape.{escaped, expanded}
+use Rattle.addresses.specs.declared.ExchangeKind.{ExchangeKind}
 use Rattle.addresses.specs.Address.{initiator, reserved}
 use Rattle.telegram.specs.Telegram.{longest, read, telegramAt}
 use Rattle.sending.specs.Sending.{commandOutput, replyOutput}
-use Rattle.rulebook.specs.Rules.{Form}
+use Rattle.rulebook.specs.Rules.{Form, OnWire}
 
 -- of a command, and of a reply
 abbrev pub longestOnWire : Bool → ℕ
 longestOnWire command = pick command 41 35
+
+-- of a whole exchange: two attempts at the command and two at the reply, each with its acknowledge byte, and SYN
+abbrev pub longestExchange : ℕ
+longestExchange = 157
 
 pub record Lengths : Type 0 where
   -- SRC, DST and LEN go out as one byte each
@@ -31,6 +36,9 @@ pub record Lengths : Type 0 where
   -- and none that is read: it ends at most that many raw bytes behind its position
   pub read-at-most : (command : Bool) (run : List ℕ) (at : ℕ) (telegram : List ℕ) (checkPlace next : ℕ)
       → telegramAt command run at ≡ read telegram checkPlace next → next ≤ at + longestOnWire command
+  -- so no exchange of the rule book takes more, and rule E20 leaves none unread
+  pub exchange-at-most : (kind : ExchangeKind) (commands replies : ℕ) (command first second raw : List ℕ) → OnWire kind commands replies command first second raw
+      → length raw ≤ longestExchange
   -- both lengths are reached
   pub command-reaches : (payload : List ℕ) × (raw : List ℕ) × (commandOutput 0x10 0x08 0xA9 0xA9 payload ≡ bytes raw) × (length raw ≡ longestOnWire true)
   pub reply-reaches : (payload : List ℕ) × (raw : List ℕ) × (replyOutput payload ≡ bytes raw) × (length raw ≡ longestOnWire false)

@@ -4,6 +4,7 @@
 use crate::case::SECOND;
 use crate::checks::{C, C_WIDE, EBUS, MODBUS};
 use crate::contest::CONTEST;
+use crate::feed::FEED_64;
 use crate::judge::JUDGE;
 use crate::report::{Measured, Ratio};
 use crate::scan::{MOST, SCAN};
@@ -47,6 +48,8 @@ fn on_ratio(ratio: &Ratio) -> Option<Bar> {
         (MODBUS | EBUS, C | C_WIDE, 64..) => 0.95,
         (MODBUS | EBUS, C | C_WIDE, 8) => 0.6,
         (JUDGE, SECOND, _) => 1.0,
+        // Listening takes at most one and a half times as long as judging.
+        (FEED_64, JUDGE, _) => 0.66,
         (SCAN, SECOND, MOST) => 1.0,
         (SCAN, "bus", MOST) => 200.0,
         _ => return None,

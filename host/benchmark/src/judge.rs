@@ -15,10 +15,10 @@ pub const JUDGE: &str = "judge";
 
 /// The three buffers that a judge is lent.
 #[derive(Clone, Debug, Default, PartialEq)]
-struct Buffers {
-    command: [u8; sys::MOOR_COMMAND_ROOM],
-    reply_1: [u8; sys::MOOR_REPLY_ROOM],
-    reply_2: [u8; sys::MOOR_REPLY_ROOM],
+pub struct Buffers {
+    pub command: [u8; sys::MOOR_COMMAND_ROOM],
+    pub reply_1: [u8; sys::MOOR_REPLY_ROOM],
+    pub reply_2: [u8; sys::MOOR_REPLY_ROOM],
 }
 
 type Answer = Result<exchange::Judged, Refusal>;
@@ -40,7 +40,8 @@ pub fn judge(size: usize) -> Result<Case, String> {
     })
 }
 
-fn candidate<T: 'static>(
+/// A candidate that judges each exchange into the same buffers.
+pub fn candidate<T: 'static>(
     name: &'static str,
     judge: fn(&[u8], &mut Buffers) -> T,
     runs: Rc<[Vec<u8>]>,
@@ -54,7 +55,7 @@ fn candidate<T: 'static>(
     })
 }
 
-fn judge_ours(run: &[u8], buffers: &mut Buffers) -> sys::Judged {
+pub fn judge_ours(run: &[u8], buffers: &mut Buffers) -> sys::Judged {
     let Buffers {
         command,
         reply_1,

@@ -11,6 +11,7 @@ mod checks;
 mod contest;
 mod count;
 mod exchanges;
+mod feed;
 mod judge;
 mod machine;
 mod measure;
@@ -102,7 +103,7 @@ fn measure_all(names: &[&str]) -> Result<Vec<Measured>, String> {
 
 /// Times a case, and names its candidates for the counting.
 fn time_case(name: &str, size: usize) -> Result<(Measured, Vec<Alone>), String> {
-    if name == judge::JUDGE {
+    if matches!(name, judge::JUDGE | feed::FEED_64 | feed::FEED_1) {
         println!("{name} {size}: {}", exchanges::describe(size)?);
     }
     let mut case = cases::make(name, size)?;
@@ -135,10 +136,9 @@ fn share_out(counts: Vec<f64>, all: &mut [Measured]) {
 }
 
 fn print_notes() {
-    println!(
-        "Answers were compared before each timing, on the same input. The judge's buffers and"
-    );
-    println!("the scan's lists are not cleared between calls, neither ours nor theirs.");
+    println!("Answers were compared before each timing, on the same input. The buffers of judge");
+    println!("and listener and the scan's lists are not cleared between calls, neither ours nor");
+    println!("theirs.");
     println!(
         "The bus takes {:.3} s for a scan of {} devices: {} requests of {} bits at {} baud.",
         scan::bus_time(scan::MOST) / 1e9,

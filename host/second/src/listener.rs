@@ -108,9 +108,10 @@ impl Listener {
         Listener::using(MOST_READ)
     }
 
-    /// A fresh state that uses at most so many bytes. Any other number than
-    /// [`MOST_READ`] is for tests, since no exchange is that long.
-    fn using(most: usize) -> Self {
+    /// A fresh state that uses at most so many bytes. Any other number than 2^31
+    /// is for tests, since no exchange is that long: with fewer it is a state
+    /// that starts late in a recording, its places counted from there.
+    pub fn using(most: usize) -> Self {
         Listener {
             most,
             used: 0,

@@ -4,8 +4,9 @@ use super::telegram::{COMMAND_HEAD, REPLY_HEAD};
 use super::Kind;
 use crate::{call, sys, Refusal};
 
-/// The room that [`judge_into`] asks of its command buffer: the longest command
-/// in logical bytes.
+/// The room that [`judge_into`] and
+/// [`Listener::close_into`](super::Listener::close_into) ask of their command
+/// buffer: the longest command in logical bytes.
 ///
 /// ```
 /// use moortinker::ebus::{judge_into, COMMAND_ROOM, REPLY_ROOM};
@@ -17,8 +18,9 @@ use crate::{call, sys, Refusal};
 /// ```
 pub const COMMAND_ROOM: usize = sys::MOOR_COMMAND_ROOM;
 
-/// The room that [`judge_into`] asks of each reply buffer: the longest reply in
-/// logical bytes.
+/// The room that [`judge_into`] and
+/// [`Listener::close_into`](super::Listener::close_into) ask of each reply
+/// buffer: the longest reply in logical bytes.
 ///
 /// ```
 /// use moortinker::ebus::{judge_into, COMMAND_ROOM, REPLY_ROOM};
@@ -31,7 +33,7 @@ pub const COMMAND_ROOM: usize = sys::MOOR_COMMAND_ROOM;
 pub const REPLY_ROOM: usize = sys::MOOR_REPLY_ROOM;
 
 /// What is known of an accepted exchange beside its bytes. [`judge_into`]
-/// gives it.
+/// gives it, and so does [`Listener::close_into`](super::Listener::close_into).
 ///
 /// ```
 /// use moortinker::ebus::{self, Kind};
@@ -54,6 +56,17 @@ pub struct Judged {
 }
 
 impl Judged {
+    /// What an answer of the archive says.
+    pub(super) fn of_archive(judged: sys::Judged) -> Result<Judged, Refusal> {
+        Refusal::check(judged.number, judged.place)?;
+        Ok(Judged {
+            kind: Kind::of_archive(judged.kind),
+            command_attempts: judged.command_attempts,
+            reply_attempts: judged.reply_attempts,
+            bytes_read: judged.read,
+        })
+    }
+
     /// The kind of the accepted command.
     pub fn kind(&self) -> Kind {
         self.kind
@@ -81,6 +94,8 @@ impl Judged {
 /// When accepted, `command` starts with the accepted command, SRC through
 /// check byte, and `reply_1` and `reply_2` with the reply attempts that
 /// happened, LEN through check byte. All other bytes stay.
+///
+/// At most 2^31 bytes are read, as if the run ended there.
 ///
 /// Refuses with [`OutputShort`](crate::Reason::OutputShort), then with the
 /// first fault that is met in the run.
@@ -111,18 +126,12 @@ pub fn judge_into(
     reply_1: &mut [u8],
     reply_2: &mut [u8],
 ) -> Result<Judged, Refusal> {
-    let judged = call::judge(run, command, reply_1, reply_2);
-    Refusal::check(judged.number, judged.place)?;
-    Ok(Judged {
-        kind: Kind::of_archive(judged.kind),
-        command_attempts: judged.command_attempts,
-        reply_attempts: judged.reply_attempts,
-        bytes_read: judged.read,
-    })
+    Judged::of_archive(call::judge(run, command, reply_1, reply_2))
 }
 
 /// The data of the reply attempt asked for, 1 or 2, in the buffers that
-/// [`judge_into`] filled.
+/// [`judge_into`] or [`Listener::close_into`](super::Listener::close_into)
+/// filled.
 ///
 /// It is empty for any other attempt, where the buffer is empty or its LEN is
 /// over 16, and where the data would pass the buffer's end.
@@ -141,7 +150,8 @@ pub fn reply_data<'a>(reply_1: &'a [u8], reply_2: &'a [u8], attempt: u8) -> &'a 
     &buffer[part.start..][..part.length]
 }
 
-/// An accepted exchange with its bytes. [`judge`] gives it.
+/// An accepted exchange with its bytes. [`judge`] gives it, and so does
+/// [`Listener::close`](super::Listener::close).
 ///
 /// The command is NACKed once and comes again:
 ///
@@ -173,6 +183,22 @@ pub struct Exchange {
 }
 
 impl Exchange {
+    /// What a call with lent buffers gives, with room of its own.
+    pub(super) fn with_room(
+        call: impl FnOnce(&mut [u8], &mut [u8], &mut [u8]) -> Result<Judged, Refusal>,
+    ) -> Result<Exchange, Refusal> {
+        let mut command = [0; COMMAND_ROOM];
+        let mut reply_1 = [0; REPLY_ROOM];
+        let mut reply_2 = [0; REPLY_ROOM];
+        let judged = call(&mut command, &mut reply_1, &mut reply_2)?;
+        Ok(Exchange {
+            judged,
+            command,
+            reply_1,
+            reply_2,
+        })
+    }
+
     /// Kind, attempts and bytes read.
     pub fn judged(&self) -> Judged {
         self.judged
@@ -229,7 +255,8 @@ fn telegram(buffer: &[u8], head: usize) -> &[u8] {
     &buffer[..head + data + 1]
 }
 
-/// Judges a recorded run from its start.
+/// Judges a recorded run from its start. At most 2^31 bytes are read, as if the
+/// run ended there. [`Listener`](super::Listener) judges bytes as they arrive.
 ///
 /// Refuses with the first fault that is met, at its place:
 /// [`RunEnded`](crate::Reason::RunEnded) through
@@ -252,14 +279,5 @@ fn telegram(buffer: &[u8], head: usize) -> &[u8] {
 /// # Ok::<(), moortinker::Refusal>(())
 /// ```
 pub fn judge(run: &[u8]) -> Result<Exchange, Refusal> {
-    let mut command = [0; COMMAND_ROOM];
-    let mut reply_1 = [0; REPLY_ROOM];
-    let mut reply_2 = [0; REPLY_ROOM];
-    let judged = judge_into(run, &mut command, &mut reply_1, &mut reply_2)?;
-    Ok(Exchange {
-        judged,
-        command,
-        reply_1,
-        reply_2,
-    })
+    Exchange::with_room(|command, reply_1, reply_2| judge_into(run, command, reply_1, reply_2))
 }

@@ -1,6 +1,7 @@
 //! Each call of the C interface made on both sides: on the archive with lent
 //! buffers, and on the second implementation. Answers, outputs with their
-//! margins and inputs are compared. The calls on devices are in `board`.
+//! margins and inputs are compared. The calls on devices are in `board`, those
+//! on a state of listening in `hearing`.
 
 use std::fmt::Debug;
 
@@ -332,7 +333,7 @@ pub fn judge(session: &mut Session, run: &[u8], rooms: [usize; 3]) {
     }
 }
 
-fn judge_archive(run: &Lent<u8>, buffers: &mut [Lent<u8>; 3]) -> sys::Judged {
+pub fn judge_archive(run: &Lent<u8>, buffers: &mut [Lent<u8>; 3]) -> sys::Judged {
     let [command, reply_1, reply_2] = buffers;
     // SAFETY: each pointer comes with its length, and the buffers lie apart.
     unsafe {
@@ -351,7 +352,12 @@ fn judge_archive(run: &Lent<u8>, buffers: &mut [Lent<u8>; 3]) -> sys::Judged {
 
 fn judge_second(run: &[u8], buffers: &mut [Lent<u8>; 3]) -> sys::Judged {
     let [command, reply_1, reply_2] = buffers.each_mut().map(Lent::part_mut);
-    match exchange::judge(run, command, reply_1, reply_2) {
+    judged(exchange::judge(run, command, reply_1, reply_2))
+}
+
+/// The second's answer to an exchange, as the archive lays it out.
+pub fn judged(second: Result<exchange::Judged, Refusal>) -> sys::Judged {
+    match second {
         Ok(judged) => sys::Judged {
             number: 0,
             kind: judged.kind as u8,

@@ -4,11 +4,11 @@
 
 use crate::board::{ask, contest, scan, table_valid, Asked, Board};
 use crate::calls;
-use crate::inputs::expanded;
+use crate::hearing::{Hearing, MOST_USED};
+use crate::inputs::{expanded, ROOMS};
 use crate::session::Session;
 use crate::tables::Table;
 
-const ROOMS: [usize; 3] = [22, 18, 18];
 /// W7.
 const EXCHANGE: [u8; 13] = [
     0x10, 0x08, 0xB5, 0x11, 0x01, 0x01, 0x89, 0x00, 0x01, 0x2A, 0xB1, 0x00, 0xAA,
@@ -29,6 +29,7 @@ pub fn run_all(session: &mut Session) {
     escapes(session);
     telegrams(session);
     exchanges(session);
+    listening(session);
     reply_data(session);
     frames(session);
     tables(session);
@@ -99,11 +100,8 @@ fn telegrams(session: &mut Session) {
     }
 }
 
-fn exchanges(session: &mut Session) {
-    for rooms in [[21, 18, 18], [22, 17, 18], [22, 18, 17], [0; 3], ROOMS] {
-        calls::judge(session, &EXCHANGE, rooms);
-        calls::judge(session, &[], rooms);
-    }
+/// Exchanges that are accepted: each kind, with and without repetitions.
+fn good_exchanges() -> Vec<Vec<u8>> {
     let broadcast = &[0x10, 0xFE, 0x07, 0xFE, 0x00][..];
     let initiator = &[0x31, 0x10, 0x07, 0x04, 0x01, 0xAA][..];
     let sixteen = &[[0x10, 0x08, 0xAA, 0xA9, 0x10].as_slice(), &[0xA9; 16]].concat()[..];
@@ -120,17 +118,102 @@ fn exchanges(session: &mut Session) {
         &[&twice, &[0x00], REPLY, &[0x00, 0xAA]],
         &[&sixteen, &[0x00], &replies, &[0x00, 0xAA]],
     ];
-    for parts in good {
-        for_each_neighbour(&parts.concat(), |run| calls::judge(session, run, ROOMS));
+    good.map(<[_]>::concat).to_vec()
+}
+
+/// Exchanges that are refused at the second FF, and one whose LEN is 17.
+fn refused_exchanges() -> Vec<Vec<u8>> {
+    vec![
+        [COMMAND, &[0xFF], COMMAND, &[0xFF, 0xAA]].concat(),
+        [COMMAND, &[0x00], REPLY, &[0xFF], REPLY, &[0xFF, 0xAA]].concat(),
+        vec![0x10, 0x08, 0x00, 0x00, 0x11],
+    ]
+}
+
+fn exchanges(session: &mut Session) {
+    for rooms in [[21, 18, 18], [22, 17, 18], [22, 18, 17], [0; 3], ROOMS] {
+        calls::judge(session, &EXCHANGE, rooms);
+        calls::judge(session, &[], rooms);
     }
-    let nacked: [&[&[u8]]; 2] = [
-        &[&twice, &[0xFF, 0xAA]],
-        &[COMMAND, &[0x00], &replies, &[0xFF, 0xAA]],
-    ];
-    for parts in nacked {
-        calls::judge(session, &parts.concat(), ROOMS);
+    for run in good_exchanges() {
+        for_each_neighbour(&run, |run| calls::judge(session, run, ROOMS));
     }
-    calls::judge(session, &[0x10, 0x08, 0x00, 0x00, 0x11], ROOMS);
+    for run in refused_exchanges() {
+        calls::judge(session, &run, ROOMS);
+    }
+}
+
+fn listening(session: &mut Session) {
+    for run in good_exchanges() {
+        for_each_neighbour(&run, |run| listen(session, run.chunks(1)));
+        for_each_pair_of_cuts(&run, |runs| listen(session, runs.into_iter()));
+    }
+    for run in refused_exchanges() {
+        listen(session, run.chunks(1));
+        for_each_pair_of_cuts(&run, |runs| listen(session, runs.into_iter()));
+    }
+    short_at_every_byte(session);
+    ending_at_every_byte(session);
+}
+
+/// Both sides listen to these runs, are closed, and are fed and closed again.
+fn listen<'a>(session: &mut Session, runs: impl Iterator<Item = &'a [u8]>) {
+    let hearing = Hearing::new(session);
+    listen_on(session, hearing, runs);
+}
+
+/// The same where listening has begun.
+fn listen_on<'a>(
+    session: &mut Session,
+    mut hearing: Hearing,
+    runs: impl Iterator<Item = &'a [u8]>,
+) {
+    for run in runs {
+        hearing.feed(session, run);
+    }
+    hearing.close(session, ROOMS);
+    hearing.feed(session, &EXCHANGE);
+    hearing.close(session, ROOMS);
+}
+
+/// Every way to cut an input into three.
+fn for_each_pair_of_cuts(input: &[u8], mut try_one: impl FnMut([&[u8]; 3])) {
+    for second in 0..=input.len() {
+        let (before, end) = input.split_at(second);
+        for first in 0..=second {
+            let (start, middle) = before.split_at(first);
+            try_one([start, middle, end]);
+        }
+    }
+}
+
+/// Closings that are too short before each byte and behind the answer.
+fn short_at_every_byte(session: &mut Session) {
+    for run in good_exchanges().into_iter().chain(refused_exchanges()) {
+        let mut hearing = Hearing::new(session);
+        for byte in run.chunks(1) {
+            for rooms in [[21, 18, 18], [22, 17, 18], [22, 18, 17], [0; 3]] {
+                hearing.close(session, rooms);
+            }
+            hearing.feed(session, byte);
+        }
+        for rooms in [[0; 3], ROOMS, [22, 18, 17], ROOMS] {
+            hearing.close(session, rooms);
+        }
+    }
+}
+
+/// Exchanges that start so late in a recording that the last byte that is used
+/// is any of theirs, or one behind them.
+fn ending_at_every_byte(session: &mut Session) {
+    for run in good_exchanges().into_iter().chain(refused_exchanges()) {
+        for left in 0..=run.len() + 1 {
+            for length in [1, 3, run.len()] {
+                let hearing = Hearing::starting_at(session, MOST_USED - left);
+                listen_on(session, hearing, run.chunks(length));
+            }
+        }
+    }
 }
 
 /// Every LEN near the limits in buffers of every length near them.

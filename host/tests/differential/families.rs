@@ -3,23 +3,27 @@
 
 use crate::board::{ask, contest, scan, table_valid, Asked, Board};
 use crate::calls;
+use crate::cuts::listening;
 use crate::inputs;
 use crate::random::Random;
 use crate::session::Session;
+use crate::states::states;
 use crate::tables;
 
 /// A family: its name, its share in thousandths, and one step of it.
 type Family = (&'static str, u64, fn(&mut Session));
 
 const FAMILIES: &[Family] = &[
-    ("checks", 60, checks),
-    ("escapes", 170, escapes),
-    ("telegrams", 130, telegrams),
-    ("telegram writers", 110, telegram_writers),
-    ("exchanges", 320, exchanges),
-    ("frames", 150, frames),
-    ("tables", 25, devices),
-    ("sequences", 35, sequences),
+    ("checks", 49, checks),
+    ("escapes", 139, escapes),
+    ("telegrams", 107, telegrams),
+    ("telegram writers", 90, telegram_writers),
+    ("exchanges", 262, exchanges),
+    ("listening", 140, listening),
+    ("states of any bytes", 40, states),
+    ("frames", 123, frames),
+    ("tables", 21, devices),
+    ("sequences", 29, sequences),
 ];
 
 /// Runs every family.
@@ -116,11 +120,7 @@ fn telegram_writers(session: &mut Session) {
 fn exchanges(session: &mut Session) {
     let random = &mut session.random;
     let run = inputs::run(random);
-    let rooms = [22, 18, 18].map(|needed| match random.below(60) {
-        0 => random.below(51),
-        1..=9 => needed,
-        _ => needed + random.below(30),
-    });
+    let rooms = inputs::rooms(random);
     calls::judge(session, &run, rooms);
     if session.random.one_in(5) {
         let random = &mut session.random;

@@ -1,11 +1,15 @@
 //! Random raw runs and frames: valid ones made with the second implementation's
-//! writers, ones with something wrong inside, and damaged ones.
+//! writers, ones with something wrong inside, and damaged ones. And the lengths
+//! of the buffers that an exchange is judged into.
 
 use second::checks::{ebus_check, modbus_check};
 use second::ebus::{expand, is_initiator, write_command, write_reply};
 use second::frames::{write_end, write_found, write_request};
 
 use crate::random::Random;
+
+/// The room that judging an exchange asks for: command, first and second reply.
+pub const ROOMS: [usize; 3] = [22, 18, 18];
 
 /// How careful the maker of an exchange is.
 #[derive(Clone, Copy, PartialEq)]
@@ -38,6 +42,26 @@ pub fn run(random: &mut Random) -> Vec<u8> {
             random.bytes(length)
         }
     }
+}
+
+/// Buffers for an exchange: mostly enough room, at times too little.
+pub fn rooms(random: &mut Random) -> [usize; 3] {
+    ROOMS.map(|needed| match random.below(60) {
+        0 => random.below(51),
+        1..=9 => needed,
+        _ => needed + random.below(30),
+    })
+}
+
+/// Buffers of which one at least is too short.
+pub fn short_rooms(random: &mut Random) -> [usize; 3] {
+    let mut rooms = rooms(random);
+    let which = random.below(3);
+    rooms[which] = match random.below(3) {
+        0 => random.below(ROOMS[which]),
+        _ => ROOMS[which] - 1,
+    };
+    rooms
 }
 
 /// Exchanges one after the other, up to a few thousand bytes.

@@ -10,8 +10,9 @@ use crate::random::Random;
 
 /// The seed of a run that names no other.
 const SEED: u64 = 0x000E_B052_0017;
-/// The inputs of a run that asks for no other number.
-const INPUTS: u64 = 6_000_000;
+/// The inputs of a run that asks for no other number. A recording that both
+/// sides listen to is one input, in however many runs it is fed.
+const INPUTS: u64 = 7_500_000;
 
 /// Declares the functions of the C interface, each with the numbers that
 /// the rules and the header let it give.
@@ -43,6 +44,10 @@ functions! {
     WriteCommand "moor_write_command" [0 1 6 7 8]
     WriteReply "moor_write_reply" [0 1 8]
     Judge "moor_judge" [0 1 3 4 5 6 7 8 9 10 11 12]
+    Listen "moor_listen" [0]
+    Feed "moor_feed" [0]
+    HasAnswered "moor_has_answered" [0]
+    Close "moor_close" [0 1 3 4 5 6 7 8 9 10 11 12]
     ReplyData "moor_reply_data" [0]
     ReadRequest "moor_read_request" [0 13 14 15 16]
     ReadAnswer "moor_read_answer" [0 13 14 15 16 17]
@@ -60,21 +65,36 @@ functions! {
 /// What an accepted answer looked like, in up to three values.
 pub type Form = [u8; 3];
 
+/// The forms of an accepted exchange: kind, attempts at command and reply.
+const EXCHANGES: &[Form] = &[
+    [1, 1, 0],
+    [1, 2, 0],
+    [2, 1, 0],
+    [2, 2, 0],
+    [3, 1, 1],
+    [3, 1, 2],
+    [3, 2, 1],
+    [3, 2, 2],
+];
+
 /// The forms of accepted answers that a run must have met.
 const FORMS: &[(Function, &[Form])] = &[
+    (Function::Judge, EXCHANGES),
+    (Function::Close, EXCHANGES),
+    // An empty run; one of which all is used, none, the last byte deciding, or
+    // one before it; one that goes on behind the last byte that is used at all.
     (
-        Function::Judge,
+        Function::Feed,
         &[
-            [1, 1, 0],
-            [1, 2, 0],
-            [2, 1, 0],
-            [2, 2, 0],
-            [3, 1, 1],
-            [3, 1, 2],
-            [3, 2, 1],
-            [3, 2, 2],
+            [0; 3],
+            [1, 0, 0],
+            [2, 0, 0],
+            [3, 0, 0],
+            [4, 0, 0],
+            [5, 0, 0],
         ],
     ),
+    (Function::HasAnswered, &[[0; 3], [1, 0, 0]]),
     (Function::ReplyData, &[[1, 0, 0], [1, 1, 0], [2, 1, 0]]),
     (Function::IsInitiator, &[[0; 3], [1, 0, 0]]),
     (Function::IsReserved, &[[0; 3], [1, 0, 0]]),
@@ -143,9 +163,22 @@ impl Session {
         Lent::filled(&mut self.random, length)
     }
 
-    /// Counts a call that was compared, and ends the test where the two sides
-    /// differ.
+    /// Counts an input with the call that was made on it, and ends the test
+    /// where the two sides differ.
     pub fn settle(
+        &mut self,
+        function: Function,
+        number: u8,
+        compared: Result<(), String>,
+        input: impl FnOnce() -> String,
+    ) {
+        self.go_on(function, number, compared, input);
+        self.total += 1;
+    }
+
+    /// Counts a further call on an input that was counted, and ends the test
+    /// where the two sides differ.
+    pub fn go_on(
         &mut self,
         function: Function,
         number: u8,
@@ -161,7 +194,6 @@ impl Session {
                 self.total
             );
         }
-        self.total += 1;
         *self.counts.entry((function, number)).or_default() += 1;
     }
 
@@ -175,15 +207,15 @@ impl Session {
         let met: BTreeSet<u8> = self.counts.keys().map(|key| key.1).collect();
         print!("{:20}", "");
         for number in &met {
-            print!("{number:>8}");
+            print!("{number:>9}");
         }
         println!();
         for &(function, name, _) in FUNCTIONS {
             print!("{name:20}");
             for &number in &met {
                 match self.counts.get(&(function, number)) {
-                    Some(count) => print!("{count:>8}"),
-                    None => print!("{:>8}", "."),
+                    Some(count) => print!("{count:>9}"),
+                    None => print!("{:>9}", "."),
                 }
             }
             println!();
@@ -216,11 +248,23 @@ fn counted_of<T: Copy>(counts: &BTreeMap<(Function, T), u64>, function: Function
 
 /// Compares one thing that the two sides of a call left.
 pub fn same<T: PartialEq + Debug>(what: &str, archive: &T, second: &T) -> Result<(), String> {
-    if archive == second {
+    same_between(["archive", "second"], what, archive, second)
+}
+
+/// Compares one thing that two sides left, which are named.
+pub fn same_between<T: PartialEq + Debug>(
+    sides: [&str; 2],
+    what: &str,
+    one: &T,
+    other: &T,
+) -> Result<(), String> {
+    if one == other {
         return Ok(());
     }
+    let width = 1 + sides[0].len().max(sides[1].len());
+    let [first, second] = sides.map(|side| format!("{side}:"));
     Err(format!(
-        "  {what} of the archive: {archive:?}\n  {what} of the second:  {second:?}"
+        "  {what} of the {first:width$} {one:?}\n  {what} of the {second:width$} {other:?}"
     ))
 }
 

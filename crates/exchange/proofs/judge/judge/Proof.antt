@@ -1,12 +1,12 @@
--- `exchange::judge::judge` meets its contract: the rooms, and then the exchange from the start of the run.
+-- `exchange::judge::judge` meets its contract: the rooms, and then the exchange from the start of the run, of the bytes that are read.
 -- Assumes nothing.
-use mathlib.Core.Path.{sym, _∙_}
+use mathlib.Core.Path.{sym, ap, _∙_}
 use lib.ListN.{length}
-use borrow.Author.Needs.{needs}
 use borrow.Author.Tests.{not-true, not-false}
 use Rattle.refusal.specs.Number.{outputShort, at-place}
-use Rattle.exchange.specs.Exchange.{judged}
-use Rattle.exchange.proofs.Buffers.{judged-short, judged-roomy, refuses, judges-same}
+use Rattle.exchange.specs.Exchange.{exchange, judged}
+use Rattle.exchange.proofs.Buffers.{judged-short, judged-roomy, read-length, read-part, refuses, judges-same}
+use borrow.Author.Needs.{needs}
 use Rattle.exchange.proofs.judge.judge.Statement.{statement}
 use Rattle.exchange.proofs.judge.judge.Tie as tie
 
@@ -20,8 +20,14 @@ returns : tie.Need-returns
 returns c = refuses (judged (c .before .before .before .before .before .before .before .args .run .now) (length (c .before .before .before .before .before .before .before .args .command .now)) (length (c .before .before .before .before .before .before .before .args .reply-1 .now)) (length (c .before .before .before .before .before .before .before .args .reply-2 .now))) (c .before .before .before .before .before .before .before .args .command .now) (c .before .before .before .before .before .before .before .args .reply-1 .now) (c .before .before .before .before .before .before .before .args .reply-2 .now) (at-place outputShort 0) (c .too-short .result)
     (judged-short (length (c .before .before .before .before .before .before .before .args .command .now)) (length (c .before .before .before .before .before .before .before .args .reply-1 .now)) (length (c .before .before .before .before .before .before .before .args .reply-2 .now)) (c .before .before .before .before .before .before .before .args .run .now) (sym (c .before .before .have-room .ensures) ∙ not-true _ (c .before .if1 .taken))) (c .too-short .ensures)
 
+read-of-requires : tie.Need-read-of-requires
+read-of-requires c κs = search needs
+
+slice-aggregate-judge-at : tie.Need-slice-aggregate-judge-at
+slice-aggregate-judge-at c = read-length (c .before .before .before .before .before .before .before .before .args .run .now) (c .before .read-of .result) (c .before .read-of .ensures)
+
 judge-at-requires : tie.Need-judge-at-requires
-judge-at-requires c κs = sym (c .before .before .before .before .have-room .ensures) ∙ not-false _ (c .before .before .before .if1 .left)
+judge-at-requires c κs = sym (c .before .before .before .before .before .before .have-room .ensures) ∙ not-false _ (c .before .before .before .before .before .if1 .left)
 
 same-length : tie.Need-same-length
 same-length c = search needs
@@ -33,7 +39,7 @@ same-length-3 : tie.Need-same-length-3
 same-length-3 c = search needs
 
 returns-2 : tie.Need-returns-2
-returns-2 c = judges-same (judged-roomy (length (c .before .before .before .before .before .before .before .before .before .before .before .before .before .before .before .before .args .command .now)) (length (c .before .before .before .before .before .before .before .before .before .before .before .before .before .before .before .before .args .reply-1 .now)) (length (c .before .before .before .before .before .before .before .before .before .before .before .before .before .before .before .before .args .reply-2 .now)) (c .before .before .before .before .before .before .before .before .before .before .before .before .before .before .before .before .args .run .now) (sym (c .before .before .before .before .before .before .before .before .before .before .before .have-room .ensures) ∙ not-false _ (c .before .before .before .before .before .before .before .before .before .before .if1 .left))) (c .before .before .before .before .before .before .judge-at .ensures)
+returns-2 c = judges-same (judged-roomy (length (c .before .before .before .before .before .before .before .before .before .before .before .before .before .before .before .before .before .before .args .command .now)) (length (c .before .before .before .before .before .before .before .before .before .before .before .before .before .before .before .before .before .before .args .reply-1 .now)) (length (c .before .before .before .before .before .before .before .before .before .before .before .before .before .before .before .before .before .before .args .reply-2 .now)) (c .before .before .before .before .before .before .before .before .before .before .before .before .before .before .before .before .before .before .args .run .now) (sym (c .before .before .before .before .before .before .before .before .before .before .before .before .before .have-room .ensures) ∙ not-false _ (c .before .before .before .before .before .before .before .before .before .before .before .before .if1 .left)) ∙ sym (ap exchange (read-part (c .before .before .before .before .before .before .before .before .before .before .before .before .before .before .before .before .before .before .args .run .now) (c .before .before .before .before .before .before .before .before .before .before .before .read-of .result) (c .before .before .before .before .before .before .before .before .before .before .before .read-of .ensures)))) (c .before .before .before .before .before .before .judge-at .ensures)
 
 pub judge-spec : {M : Type 1} → statement M
 judge-spec =
@@ -42,6 +48,8 @@ judge-spec =
     have-room-requires
     too-short-requires
     returns
+    read-of-requires
+    slice-aggregate-judge-at
     judge-at-requires
     same-length
     same-length-2

@@ -1,0 +1,2 @@
+-- Laws of closing that belong to no one function.
+pub mod Closing

@@ -1,0 +1,2 @@
+-- A recording in any cuts.
+pub mod Cuts

@@ -1,0 +1,171 @@
+-- A turn of listening: one decision, or all the bytes of a run in hand.
+-- Assumes nothing.
+use mathlib.Core.Path.{_≡_, refl, sym, ap, _∙_, subst}
+use mathlib.Core.Bool.{Bool, false}
+use mathlib.Core.List.{List, [], _∷_, _++_, append-assoc, append-nil}
+use Prim.Native.Nat.{ℕ, _+_, _-_, _≤_, _<_, min, max}
+use native.Mathlib.Omega.{arith}
+use lib.Dec.{eqb}
+use lib.ListN.{length, getD, take, drop, replicate, length-append, length-take, length-drop, take-append-drop}
+use lib.Seq.{drop-append-le, length-take-le}
+use borrow.Author.Tests.{lt-ltb, le-ltb, lt-leb}
+use Rattle.lists.specs.Choice.{pick}
+use Rattle.lists.specs.Starting.{starting}
+use Rattle.lists.proofs.Cases.{pick-cases}
+use Rattle.lists.proofs.Filling.{put-whole, put-behind, start-of, length-starting}
+use Rattle.refusal.specs.Number.{runEnded}
+use Rattle.escapes.specs.Escape.{syn}
+use Rattle.attempts.specs.Attempt.{Attempt, taken, nacked, failed, attemptAt}
+use Rattle.attempts.specs.Looks.{lookedAt}
+use Rattle.listening.specs.declared.Listening.{Listening}
+use Rattle.listening.specs.declared.Fed.{Fed}
+use Rattle.listening.specs.Listening.{firstCommand, firstReply, synDue, nothingDue, handRoom, inHand, hasAnswered, inHandNow, isCommand, onTaken, onNacked, onAttempt, onSyn, hear, after, listened}
+use Rattle.feeding.specs.Inner.{stepBy, stepOn, Turned}
+use Rattle.listening.proofs.Undecided.{in-hand-now}
+use Rattle.feeding.proofs.AtOnce.{same-step, at-once}
+
+-- ---- the bytes in hand, and behind them as many of a run as there is room for
+
+module _ (hand run first last : List ℕ) (within : length hand ≤ handRoom) (put-first : first ≡ starting (take 46 hand) (replicate 46 0))
+    (put-last : last ≡ starting (take (length (take (46 - length hand) (drop (length hand) first))) run) (take (46 - length hand) (drop (length hand) first))) where
+  abbrev n : ℕ
+  n = length hand
+
+  abbrev joined : List ℕ
+  joined = take n first ++ (last ++ drop (46 - n) (drop n first))
+
+  first-is : first ≡ starting hand (replicate 46 0)
+  first-is = put-first ∙ put-whole hand (replicate 46 0) (omega arith)
+
+  first-long : length first ≡ 46
+  first-long = ap length first-is ∙ length-starting hand (replicate 46 0) (omega arith)
+
+  left : length (take (46 - n) (drop n first)) ≡ 46 - n
+  left = length-take-le (46 - n) (drop n first) (omega (arith, first-long, length-drop n first))
+
+  module _ (k : ℕ) (is : k ≡ min (46 - n) (length run)) where
+    pub joined-is : take (n + k) joined ≡ hand ++ take (46 - n) run
+    joined-is =
+        let bs = take (46 - n) run in
+        let rest = drop (length bs) (take (46 - n) (drop n first)) in
+        let end = drop (46 - n) (drop n first) in
+        let count : length bs ≡ min (46 - n) (length run) = length-take (46 - n) run in
+        let last-is : last ≡ bs ++ rest = put-last ∙ ap (λ (k : ℕ). starting (take k run) (take (46 - n) (drop n first))) left in
+        ap (λ (m : ℕ). take (n + m) joined) (is ∙ sym count)
+        ∙ ap (λ (x : List ℕ). take (n + length bs) (take n first ++ x)) (ap (λ (x : List ℕ). x ++ end) last-is ∙ append-assoc bs rest end)
+        ∙ put-behind first n bs (rest ++ end) (omega (arith, first-long))
+        ∙ ap (λ (x : List ℕ). x ++ bs) (ap (take n) first-is ∙ start-of hand (replicate 46 0) n refl)
+
+    pub joined-long : n + k ≤ length joined
+    joined-long =
+        omega (
+          arith,
+          length-append (take n first) (last ++ drop (46 - n) (drop n first)),
+          length-append last (drop (46 - n) (drop n first)),
+          length-take-le n first (omega (arith, first-long)),
+          ap length put-last ∙ length-starting (take (length (take (46 - n) (drop n first))) run) (take (46 - n) (drop n first)) (omega (arith, length-take (length (take (46 - n) (drop n first))) run)),
+          left,
+        )
+
+    pub joined-size : length (take (n + k) joined) ≡ n + k
+    joined-size = ap length joined-is ∙ length-append hand (take (46 - n) run) ∙ omega (arith, length-take (46 - n) run)
+
+-- ---- how far a state comes
+
+abbrev At : ℕ → Listening → Type 0
+At n s = s .start + length (inHand s) ≡ n
+
+module _ (s : Listening) (n : ℕ) where
+  at-taken : (t : List ℕ) → At (s .start + n) (onTaken s n t)
+  unfolding onTaken
+  at-taken t =
+      let A = At (s .start + n) in
+      pick-cases A (isCommand s) _ _ (λ _. omega arith) (λ _. pick-cases A (eqb (s .due) firstReply) _ _ (λ _. omega arith) (λ _. omega arith))
+
+  at-nacked : (t : List ℕ) (place : ℕ) → At (s .start + n) (onNacked s n t place)
+  unfolding onNacked
+  at-nacked t place =
+      let A = At (s .start + n) in
+      pick-cases A (eqb (s .due) firstCommand) _ _ (λ _. omega arith) (λ _. pick-cases A (eqb (s .due) firstReply) _ _ (λ _. omega arith) (λ _. omega arith))
+
+-- as many bytes on as were used, from where what was in hand starts
+pub step-moves : (s : Listening) (c : List ℕ) (n : ℕ) (a : Attempt) → At (s .start + stepBy s c n a .used) (stepBy s c n a .state)
+step-moves s c n (taken t next) = at-taken s n t
+step-moves s c n (nacked t place) = at-nacked s n t place
+step-moves s c n (failed why) =
+    pick-cases (λ (f : Fed). At (s .start + f .used) (f .state)) (eqb (why .number) runEnded) _ _
+    (λ _. ap (λ (x : List ℕ). s .start + length x) (in-hand-now s c)) (λ _. omega arith)
+
+-- ---- a turn
+
+abbrev pub counting : Fed → ℕ → Fed
+counting f n = record { state = f .state; used = n }
+
+-- an attempt on the bytes in hand and those behind them
+pub turned : (s : Listening) → s .due < synDue → (hand : List ℕ) → inHand s ≡ hand → (run rest : List ℕ) → 0 < length run
+    → (used : ℕ) → used ≡ stepOn s (hand ++ run) (length hand + 1) .used - length hand
+    → Turned s (run ++ rest) (counting (stepOn s (hand ++ run) (length hand + 1)) used)
+turned s tries hand is [] rest h used e = let f : ⊥ = omega arith in absurd f
+turned s tries hand is (b ∷ r) rest h used e =
+    let c = hand ++ b ∷ r in
+    let f = stepOn s c (length hand + 1) in
+    let on = at-once r s (lt-ltb (s .due) synDue tries) hand is b rest in
+    let within : used ≤ length (b ∷ r) = omega (arith, on .some, on .within, length-append hand (b ∷ r)) in
+    record {
+      some = omega (arith, on .some);
+      within = omega (arith, length-append (b ∷ r) rest);
+      same =
+          on .same ∙ ap (λ (j : ℕ). after j (listened (f .state) (drop j (b ∷ r) ++ rest))) (sym e)
+          ∙ ap (λ (x : List ℕ). after used (listened (f .state) x)) (sym (drop-append-le used (b ∷ r) rest within));
+      moves = omega (arith, step-moves s c (max (length hand + 1) (lookedAt (isCommand s) c 0)) (attemptAt (isCommand s) c 0), on .some, ap length is);
+    }
+
+-- nothing is in hand
+pub turned-alone : (s : Listening) → s .due < synDue → inHand s ≡ [] → (run : List ℕ) → 0 < length run → (f : Fed) → f ≡ stepOn s run 1 → Turned s run f
+turned-alone s tries empty run some-run f is =
+    let g = stepOn s run 1 in
+    let all : g .used ≡ g .used - 0 = omega arith in
+    subst (Turned s run) (sym is) (subst (λ (r : List ℕ). Turned s r g) (append-nil run) (turned s tries [] empty run [] some-run (g .used) all))
+
+-- the bytes in hand are joined with some of the run
+pub turned-joined : (s₀ : Listening) → s₀ .due < synDue → (hand run : List ℕ) → length hand ≤ handRoom → 0 < length run
+    → (f : Fed) → f ≡ stepOn s₀ (hand ++ take (46 - length hand) run) (length hand + 1)
+    → (length hand < f .used) × Turned (inHandNow s₀ hand) run (counting f (f .used - length hand))
+turned-joined s₀ tries hand run within some-run f is =
+    let s = inHandNow s₀ hand in
+    let n = length hand in
+    let r = take (46 - n) run in
+    let c = hand ++ r in
+    let g = stepOn s c (n + 1) in
+    let f-is : f ≡ g = is ∙ sym (same-step s₀ hand c (max (n + 1) (lookedAt (isCommand s₀) c 0)) (attemptAt (isCommand s₀) c 0)) in
+    let more : 0 < length r = omega (arith, length-take (46 - n) run) in
+    let t = turned s tries hand (in-hand-now s₀ hand) r (drop (46 - n) run) more (g .used - n) refl in
+    let used-is : f .used ≡ g .used = ap (λ (x : Fed). x .used) f-is in (
+      omega (arith, t .some),
+      subst (λ (x : Fed). Turned s run (counting x (x .used - n))) (sym f-is)
+          (subst (λ (x : List ℕ). Turned s x (counting g (g .used - n))) (take-append-drop (46 - n) run) t),
+    )
+
+-- SYN is due
+module _ (s : Listening) (due : synDue ≤ s .due) (undone : s .due < nothingDue) where
+  open-still : hasAnswered s ≡ false
+  unfolding hasAnswered
+  open-still = lt-leb nothingDue (s .due) undone
+
+  pub first-byte : (b : ℕ) (rest : List ℕ) → listened s (b ∷ rest) ≡ after 1 (listened (hear s b) rest)
+  unfolding listened
+  first-byte b rest = ap (λ (t : Bool). pick t (record { state = s; used = 0 }) (after 1 (listened (hear s b) rest))) open-still
+
+  pub hears : (b : ℕ) → hear s b ≡ onSyn s b
+  unfolding hear
+  hears b = let c = inHand s ++ b ∷ [] in ap (λ (t : Bool). pick t (onAttempt s c (attemptAt (isCommand s) c 0)) (onSyn s b)) (le-ltb (s .due) synDue due)
+
+  pub turned-syn : (run : List ℕ) → 0 < length run → Turned s run (record { state = onSyn s (getD run 0 0); used = 1 })
+  turned-syn [] h = let f : ⊥ = omega arith in absurd f
+  turned-syn (b ∷ rest) h =
+      record {
+        some = omega arith;
+        within = omega arith;
+        same = first-byte b rest ∙ ap (λ (x : Listening). after 1 (listened x rest)) (hears b);
+        moves = pick-cases (At (s .start + length (inHand s) + 1)) (eqb b syn) _ _ (λ _. omega arith) (λ _. omega arith);
+      }

@@ -1,0 +1,87 @@
+-- `feeding::feed` meets its contract: by what is in hand.
+-- Assumes nothing.
+use mathlib.Core.Path.{_≡_, sym, _∙_}
+use Prim.Native.Nat.{_<_}
+use native.Mathlib.Omega.{arith}
+use lib.ListN.{length, take}
+use Rattle.listening.specs.Listening.{handRoom}
+use Rattle.listening.proofs.Undecided.{hand-size}
+use Rattle.feeding.proofs.Begun.{begun-due, begun-within, begun-long, begun}
+use Rattle.feeding.proofs.Feeding.{read-long, read-from, read-bound, feeding-all, listened-none, listened-answered}
+use borrow.Author.Needs.{needs}
+use Rattle.feeding.proofs.feed.Statement.{statement}
+use Rattle.feeding.proofs.feed.Tie as tie
+
+-- the array of a state has its length
+raw-size : (c : tie.Start) → length (c .args .state .raw) ≡ handRoom
+raw-size c = search needs
+
+heard-requires : tie.Need-heard-requires
+heard-requires c κs = search needs
+
+sub-smaller : tie.Need-sub-smaller
+sub-smaller c = search needs
+
+smaller-requires : tie.Need-smaller-requires
+smaller-requires c κs = search needs
+
+returns : tie.Need-returns
+returns c = feeding-all (c .before .before .before .before .args .state) (raw-size (c .before .before .before .before)) (c .before .before .before .before .args .run .now) (c .before .smaller .result) (c .before .before .heard .result) (c .before .before .heard .ensures) (c .before .smaller .ensures) _ (listened-none (c .before .before .before .before .args .state) (c .before .before .before .before .args .run .now) (c .before .smaller .result) (c .if1 .taken))
+
+returns-2 : tie.Need-returns-2
+returns-2 c = feeding-all (c .before .before .before .before .before .before .args .state) (raw-size (c .before .before .before .before .before .before)) (c .before .before .before .before .before .before .args .run .now) (c .before .before .before .smaller .result) (c .before .before .before .before .heard .result) (c .before .before .before .before .heard .ensures) (c .before .before .before .smaller .ensures) _ (listened-answered (c .before .before .before .before .before .before .args .state) (take (c .before .before .before .smaller .result) (c .before .before .before .before .before .before .args .run .now)) (c .if2 .taken))
+
+attempt-length-requires : tie.Need-attempt-length-requires
+attempt-length-requires c κs = search needs
+
+sub-t9 : tie.Need-sub-t9
+sub-t9 c =
+    let from = read-from (c .before .before .before .before .before .before .before .args .state) (raw-size (c .before .before .before .before .before .before .before)) (c .before .before .before .before .before .before .before .args .run .now) (c .before .before .before .before .smaller .result) (c .before .before .before .before .before .heard .result) (c .before .before .before .before .before .heard .ensures) (c .before .before .before .before .smaller .ensures) (c .before .before .before .if1 .left) in
+    let within = begun-within (c .before .before .before .before .before .before .before .args .state) (raw-size (c .before .before .before .before .before .before .before)) (c .attempt-length .result) (c .attempt-length .ensures) in
+    omega (arith, from, within)
+
+array-share-prefix-raw : tie.Need-array-share-prefix-raw
+array-share-prefix-raw c =
+    let within = begun-within (c .before .before .before .before .before .before .before .before .before .args .state) (raw-size (c .before .before .before .before .before .before .before .before .before)) (c .before .before .attempt-length .result) (c .before .before .attempt-length .ensures) in
+    omega (arith, within, hand-size (c .before .before .before .before .before .before .before .before .before .args .state) (raw-size (c .before .before .before .before .before .before .before .before .before)), raw-size (c .before .before .before .before .before .before .before .before .before))
+
+slice-aggregate-fed-on : tie.Need-slice-aggregate-fed-on
+slice-aggregate-fed-on c = sym (begun-long (c .before .before .before .before .before .before .before .before .before .before .args .state) (raw-size (c .before .before .before .before .before .before .before .before .before .before)) (c .before .before .before .attempt-length .result) (c .before .before .before .attempt-length .ensures))
+
+slice-aggregate-fed-on-2 : tie.Need-slice-aggregate-fed-on-2
+slice-aggregate-fed-on-2 c = sym (read-long (c .before .before .before .before .before .before .before .before .before .before .before .args .state) (raw-size (c .before .before .before .before .before .before .before .before .before .before .before)) (c .before .before .before .before .before .before .before .before .before .before .before .args .run .now) (c .before .before .before .before .before .before .before .before .smaller .result) (c .before .before .before .before .before .before .before .before .before .heard .result) (c .before .before .before .before .before .before .before .before .before .heard .ensures) (c .before .before .before .before .before .before .before .before .smaller .ensures))
+
+fed-on-requires : tie.Need-fed-on-requires
+fed-on-requires c κs =
+    let within = begun-within (c .before .before .before .before .before .before .before .before .before .before .before .before .args .state) (raw-size (c .before .before .before .before .before .before .before .before .before .before .before .before)) (c .before .before .before .before .before .attempt-length .result) (c .before .before .before .before .before .attempt-length .ensures) in
+    let hand-long = begun-long (c .before .before .before .before .before .before .before .before .before .before .before .before .args .state) (raw-size (c .before .before .before .before .before .before .before .before .before .before .before .before)) (c .before .before .before .before .before .attempt-length .result) (c .before .before .before .before .before .attempt-length .ensures) in
+    let in-hand = hand-size (c .before .before .before .before .before .before .before .before .before .before .before .before .args .state) (raw-size (c .before .before .before .before .before .before .before .before .before .before .before .before)) in
+    let long = read-long (c .before .before .before .before .before .before .before .before .before .before .before .before .args .state) (raw-size (c .before .before .before .before .before .before .before .before .before .before .before .before)) (c .before .before .before .before .before .before .before .before .before .before .before .before .args .run .now) (c .before .before .before .before .before .before .before .before .before .smaller .result) (c .before .before .before .before .before .before .before .before .before .before .heard .result) (c .before .before .before .before .before .before .before .before .before .before .heard .ensures) (c .before .before .before .before .before .before .before .before .before .smaller .ensures) in
+    let from = read-from (c .before .before .before .before .before .before .before .before .before .before .before .before .args .state) (raw-size (c .before .before .before .before .before .before .before .before .before .before .before .before)) (c .before .before .before .before .before .before .before .before .before .before .before .before .args .run .now) (c .before .before .before .before .before .before .before .before .before .smaller .result) (c .before .before .before .before .before .before .before .before .before .before .heard .result) (c .before .before .before .before .before .before .before .before .before .before .heard .ensures) (c .before .before .before .before .before .before .before .before .before .smaller .ensures) (c .before .before .before .before .before .before .before .before .if1 .left) in
+    let bound = read-bound (c .before .before .before .before .before .before .before .before .before .before .before .before .args .state) (raw-size (c .before .before .before .before .before .before .before .before .before .before .before .before)) (c .before .before .before .before .before .before .before .before .before .before .before .before .args .run .now) (c .before .before .before .before .before .before .before .before .before .smaller .result) (c .before .before .before .before .before .before .before .before .before .before .heard .result) (c .before .before .before .before .before .before .before .before .before .before .heard .ensures) (c .before .before .before .before .before .before .before .before .before .smaller .ensures) (c .before .before .before .before .before .before .before .before .if1 .left) in
+    (omega (arith, within, hand-long, in-hand), λ some. begun-due (c .before .before .before .before .before .before .before .before .before .before .before .before .args .state) (raw-size (c .before .before .before .before .before .before .before .before .before .before .before .before)) (c .before .before .before .before .before .attempt-length .result) (c .before .before .before .before .before .attempt-length .ensures) (λ e. some (hand-long ∙ e)), omega (arith, long, c .before .before .before .before .before .before .before .before .if1 .left), omega (arith, within, hand-long, long, from, bound))
+
+returns-3 : tie.Need-returns-3
+returns-3 c =
+    let part = take (c .before .before .before .before .before .before .before .before .before .before .smaller .result) (c .before .before .before .before .before .before .before .before .before .before .before .before .before .args .run .now) in
+    let long = read-long (c .before .before .before .before .before .before .before .before .before .before .before .before .before .args .state) (raw-size (c .before .before .before .before .before .before .before .before .before .before .before .before .before)) (c .before .before .before .before .before .before .before .before .before .before .before .before .before .args .run .now) (c .before .before .before .before .before .before .before .before .before .before .smaller .result) (c .before .before .before .before .before .before .before .before .before .before .before .heard .result) (c .before .before .before .before .before .before .before .before .before .before .before .heard .ensures) (c .before .before .before .before .before .before .before .before .before .before .smaller .ensures) in
+    let some : 0 < length part = omega (arith, long, c .before .before .before .before .before .before .before .before .before .if1 .left) in
+    let from = read-from (c .before .before .before .before .before .before .before .before .before .before .before .before .before .args .state) (raw-size (c .before .before .before .before .before .before .before .before .before .before .before .before .before)) (c .before .before .before .before .before .before .before .before .before .before .before .before .before .args .run .now) (c .before .before .before .before .before .before .before .before .before .before .smaller .result) (c .before .before .before .before .before .before .before .before .before .before .before .heard .result) (c .before .before .before .before .before .before .before .before .before .before .before .heard .ensures) (c .before .before .before .before .before .before .before .before .before .before .smaller .ensures) (c .before .before .before .before .before .before .before .before .before .if1 .left) in
+    feeding-all (c .before .before .before .before .before .before .before .before .before .before .before .before .before .args .state) (raw-size (c .before .before .before .before .before .before .before .before .before .before .before .before .before)) (c .before .before .before .before .before .before .before .before .before .before .before .before .before .args .run .now) (c .before .before .before .before .before .before .before .before .before .before .smaller .result) (c .before .before .before .before .before .before .before .before .before .before .before .heard .result) (c .before .before .before .before .before .before .before .before .before .before .before .heard .ensures) (c .before .before .before .before .before .before .before .before .before .before .smaller .ensures) _ (c .fed-on .ensures ∙ begun (c .before .before .before .before .before .before .before .before .before .before .before .before .before .args .state) (raw-size (c .before .before .before .before .before .before .before .before .before .before .before .before .before)) (c .before .before .before .before .before .before .attempt-length .result) (c .before .before .before .before .before .before .attempt-length .ensures) (c .before .before .before .before .before .before .before .if2 .left) (c .before .before .before .before .before .before .before .before .before .before .before .heard .result) from part some)
+
+pub feed-spec : {M : Type 1} → statement M
+feed-spec =
+    tie.close
+    (tie.spec
+    heard-requires
+    sub-smaller
+    smaller-requires
+    returns
+    returns-2
+    attempt-length-requires
+    sub-t9
+    array-share-prefix-raw
+    slice-aggregate-fed-on
+    slice-aggregate-fed-on-2
+    fed-on-requires
+    returns-3)

@@ -1,0 +1,66 @@
+-- What only private contracts need: what an attempt makes of a state when all the bytes that are there are looked at at once.
+-- Assumes nothing.
+use mathlib.Core.Path.{_≡_}
+use Prim.Native.Nat.{ℕ, _+_, _≤_, _<_, max}
+use mathlib.Core.Bool.{Bool, true}
+use mathlib.Core.List.{List}
+use lib.Dec.{eqb, ltb}
+use lib.ListN.{length, getD, drop, replicate}
+use Rattle.lists.specs.Choice.{pick}
+use Rattle.refusal.specs.Number.{runEnded}
+use Rattle.attempts.specs.Attempt.{Attempt, taken, nacked, failed, attemptAt}
+use Rattle.attempts.specs.Looks.{lookedAt}
+use Rattle.listening.specs.declared.Listening.{Listening}
+use Rattle.listening.specs.declared.Fed.{Fed}
+use Rattle.listening.specs.Listening.{firstReply, synDue, nothingDue, handRoom, inHand, isCommand, inHandNow, refuses, onTaken, onNacked, onSyn, after, listened}
+use Rattle.feeding.specs.declared.marks.Marks.{Marks}
+use Rattle.feeding.specs.declared.attempt.Step.{Step}
+
+-- ---- marks
+
+-- the state with these marks and this kept, and nothing in hand
+abbrev pub stateOf : Marks → List ℕ → Listening
+stateOf m kept =
+    record { start = m .start; place = m .place; due = m .due; number = m .number; held = 0; «command_attempts» = m .«command_attempts»; «reply_attempts» = m .«reply_attempts»; «command_length» = m .«command_length»; «reply_1_length» = m .«reply_1_length»; «reply_2_length» = m .«reply_2_length»; raw = replicate handRoom 0; kept = kept }
+
+abbrev pub commandDue : Marks → Bool
+commandDue m = ltb (m .due) firstReply
+
+-- the answer is known
+abbrev pub answersOn : Marks → ℕ → ℕ → ℕ → Marks
+answersOn m start number place =
+    record { start = start; place = place; due = nothingDue; number = number; «command_attempts» = m .«command_attempts»; «reply_attempts» = m .«reply_attempts»; «command_length» = m .«command_length»; «reply_1_length» = m .«reply_1_length»; «reply_2_length» = m .«reply_2_length» }
+
+-- what a step on these bytes made, with what is kept then
+abbrev pub fedOf : Step → List ℕ → List ℕ → Fed
+fedOf r c kept = record { state = pick (r .open) (inHandNow (stateOf (r .marks) kept) c) (stateOf (r .marks) kept); used = r .used }
+
+-- an open one used them all, and they have room in hand
+abbrev pub Ends : Step → List ℕ → Type 0
+Ends r c = r .open ≡ true → (r .used ≡ length c) × (length c ≤ handRoom)
+
+-- ---- an attempt
+
+-- an attempt on these bytes, of which n are used if they decide it, and else all
+abbrev pub stepBy : Listening → List ℕ → ℕ → Attempt → Fed
+stepBy s c n (taken t next) = record { state = onTaken s n t; used = n }
+stepBy s c n (nacked t place) = record { state = onNacked s n t place; used = n }
+stepBy s c n (failed why) =
+    pick (eqb (why .number) runEnded) (record { state = inHandNow s c; used = length c }) (record { state = refuses s n why; used = n })
+
+-- the bytes through the one that decides, and at least so many
+abbrev pub stepOn : Listening → List ℕ → ℕ → Fed
+stepOn s c least = stepBy s c (max least (lookedAt (isCommand s) c 0)) (attemptAt (isCommand s) c 0)
+
+-- .. or the byte that is due to be SYN
+abbrev pub turnOn : Listening → List ℕ → ℕ → Fed
+turnOn s c least = pick (ltb (s .due) synDue) (stepOn s c least) (record { state = onSyn s (getD c 0 0); used = 1 })
+
+-- ---- a turn
+
+-- some bytes of a run were used, and what is left of it goes on from the state that they made
+pub record Turned (s : Listening) (run : List ℕ) (r : Fed) : Type 0 where
+  pub some : 0 < r .used
+  pub within : r .used ≤ length run
+  pub same : listened s run ≡ after (r .used) (listened (r .state) (drop (r .used) run))
+  pub moves : r .state .start + length (inHand (r .state)) ≡ s .start + length (inHand s) + r .used

@@ -1,0 +1,2 @@
+-- Feeding a run to a state of listening.
+pub mod Inner

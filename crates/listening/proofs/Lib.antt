@@ -1,0 +1,2 @@
+-- Laws of listening that belong to no one function.
+pub mod Undecided

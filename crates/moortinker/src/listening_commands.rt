@@ -1,0 +1,45 @@
+// Bytes as they arrive: the tool holds one listening state.
+use crate::desk::Desk;
+use crate::desk::FILL;
+use crate::desk::FULL;
+use crate::ebus_commands::say_judged;
+use crate::part::lent;
+use crate::part::start_of;
+use crate::say::one;
+use crate::texts;
+
+// How many bytes of this run were used, and whether the answer is known now.
+pub(crate) fn feed(run: &[u8], d: Desk) -> Desk {
+    let fed = feeding::feed(d.listening, run);
+    let state = fed.state;
+    let said = if listening::has_answered(state) {
+        texts::USED_ANSWERED
+    } else {
+        texts::USED_LISTENING
+    };
+    let page = texts::text(d.page, said, one(fed.used as u64));
+    d.with_listening(state, page)
+}
+
+// What the judge says of the bytes used so far.
+pub(crate) fn close(d: Desk) -> Desk {
+    let mut command = [FILL; FULL];
+    let mut first = [FILL; FULL];
+    let mut second = [FILL; FULL];
+    let closed = closing::close(
+        d.listening,
+        lent(&mut command, d.room),
+        lent(&mut first, d.room),
+        lent(&mut second, d.room),
+    );
+    let answer = closed.answer;
+    let state = closed.state;
+    let page = say_judged(
+        answer,
+        start_of(&command, d.room),
+        start_of(&first, d.room),
+        start_of(&second, d.room),
+        d.page,
+    );
+    d.with_listening(state, page)
+}
