@@ -56,7 +56,7 @@ AT(moor_listening, command_length, 21);
 AT(moor_listening, reply_1_length, 22);
 AT(moor_listening, reply_2_length, 23);
 AT(moor_listening, raw, 24);
-AT(moor_listening, kept, 69);
+AT(moor_listening, kept, 70);
 
 SIZE(moor_fed, 136);
 AT(moor_fed, state, 0);

@@ -165,7 +165,7 @@ typedef struct {
     uint8_t command_length;  /* how many bytes of `kept` the command has, .. */
     uint8_t reply_1_length;  /* .. the first reply, which stands at 22, .. */
     uint8_t reply_2_length;  /* .. and the second, which stands at 40 */
-    uint8_t raw[45];
+    uint8_t raw[46];
     uint8_t kept[58];
 } moor_listening;
 

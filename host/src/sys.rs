@@ -192,7 +192,7 @@ pub struct Listening {
     /// How many the second reply has, which stands at 40.
     pub reply_2_length: u8,
     /// The raw bytes in hand.
-    pub raw: [u8; 45],
+    pub raw: [u8; 46],
     /// Command and replies, as far as they are known.
     pub kept: [u8; 58],
 }
@@ -495,7 +495,7 @@ mod tests {
         judged: Judged 24 8 { number 0 kind 1 command_attempts 2 reply_attempts 3 place 8 read 16 }
         listening: Listening 128 8 {
             start 0 place 8 due 16 number 17 held 18 command_attempts 19 reply_attempts 20
-            command_length 21 reply_1_length 22 reply_2_length 23 raw 24 kept 69
+            command_length 21 reply_1_length 22 reply_2_length 23 raw 24 kept 70
         }
         fed: Fed 136 8 { state 0 used 128 }
         closed: Closed 152 8 { judged 0 state 24 }

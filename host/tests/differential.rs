@@ -156,7 +156,7 @@ fn a_state_that_is_not_kept_is_a_difference() {
         command_length: 0,
         reply_1_length: 0,
         reply_2_length: 0,
-        raw: [0; 45],
+        raw: [0; 46],
         kept: [0; 58],
     };
     let closed = |number, state| sys::Closed {

@@ -826,7 +826,7 @@ fn nothing_is_used_behind_the_last_byte() {
 }
 
 #[test]
-fn at_most_45_bytes_are_in_hand() {
+fn at_most_46_bytes_are_in_hand() {
     let state = sys::Listening {
         due: 4,
         held: 0xFF,
@@ -836,7 +836,7 @@ fn at_most_45_bytes_are_in_hand() {
     assert_eq!((used, has_answered(state)), (1, true));
     let accepted = sys::Judged {
         kind: sys::MOOR_INITIATOR_INITIATOR,
-        read: 46,
+        read: 47,
         ..refusal(0, 0)
     };
     assert_eq!(close(state), accepted);

@@ -19,7 +19,7 @@ use Rattle.listening.specs.Listening.{synDue, nothingDue, handRoom, inHand, inH
 use Rattle.listening.proofs.Undecided.{in-hand-now}
 use Rattle.feeding.specs.declared.marks.Marks.{Marks}
 use Rattle.feeding.specs.declared.attempt.Step.{Step}
-use Rattle.feeding.specs.Inner.{stateOf, fedOf, Ends, stepOn, turnOn, Turned}
+use Rattle.feeding.specs.Inner.{stateOf, fedOf, Ends, stepOn, joinedRoom, joined, turnOn, Turned}
 use Rattle.feeding.proofs.Turning.{counting, turned-alone, turned-joined, turned-syn}
 use Rattle.feeding.proofs.Feeding.{Feeding, feeding-more, feeding-ends, feeding-answered}
 
@@ -27,15 +27,15 @@ use Rattle.feeding.proofs.Feeding.{Feeding, feeding-more, feeding-ends,
 
 abbrev looked : List ℕ → List ℕ → List ℕ
 looked [] run = run
-looked (h ∷ hs) run = (h ∷ hs) ++ take (46 - length (h ∷ hs)) run
+looked (h ∷ hs) run = joined (h ∷ hs) run
 
 looked-size : (hand run : List ℕ) → length hand ≤ handRoom → 0 < length run → (length hand + 1 ≤ length (looked hand run)) × (length (looked hand run) ≤ length hand + length run)
 looked-size [] run within some = (omega arith, omega arith)
 looked-size (h ∷ hs) run within some =
     let hand = h ∷ hs in
-    let r = take (46 - length hand) run in
+    let r = take (joinedRoom - length hand) run in
     let size : length (hand ++ r) ≡ length hand + length r = length-append hand r in
-    let cut : length r ≡ min (46 - length hand) (length run) = length-take (46 - length hand) run in
+    let cut : length r ≡ min (joinedRoom - length hand) (length run) = length-take (joinedRoom - length hand) run in
     (omega arith, omega arith)
 
 -- open: they are all
@@ -43,9 +43,9 @@ looked-all : (hand run : List ℕ) → length (looked hand run) ≤ handRoom →
 looked-all [] run h = omega arith
 looked-all (h ∷ hs) run short =
     let hand = h ∷ hs in
-    let r = take (46 - length hand) run in
+    let r = take (joinedRoom - length hand) run in
     let size : length (hand ++ r) ≡ length hand + length r = length-append hand r in
-    let cut : length r ≡ min (46 - length hand) (length run) = length-take (46 - length hand) run in
+    let cut : length r ≡ min (joinedRoom - length hand) (length run) = length-take (joinedRoom - length hand) run in
     omega arith
 
 -- ---- a turn
@@ -110,7 +110,7 @@ module _ (all : Fed) (run hand : List ℕ) (m : Marks) (kept : List ℕ) (held i
   held-long = length-take held hand ∙ omega (arith, turns .most)
 
   -- what the code looks at
-  module _ (both c : List ℕ) (joined : (length hand ≡ 0 → ⊥) → both ≡ hand ++ take (46 - length hand) run) (c-is : c ≡ pick (eqb held 0) part both) where
+  module _ (both c : List ℕ) (is-joined : (length hand ≡ 0 → ⊥) → both ≡ joined hand run) (c-is : c ≡ pick (eqb held 0) part both) where
     is-looked : c ≡ looked (take held hand) part
     is-looked =
         ⊎-elim
@@ -123,12 +123,12 @@ module _ (all : Fed) (run hand : List ℕ) (m : Marks) (kept : List ℕ) (held i
         let hand-there : length hand ≡ 0 → ⊥ = λ e. omega (arith, f .0) in
         let run-is : part ≡ run = ap (λ (k : ℕ). take (length run - k) (drop k run)) (f .1) ∙ take-all (length run - 0) run (omega arith) in
         let hand-is : take held hand ≡ hand = take-all held hand (omega (arith, f .0)) in
-        c-is ∙ ap (λ (b : Bool). pick b part both) (ne-eqb held 0 there) ∙ joined hand-there
+        c-is ∙ ap (λ (b : Bool). pick b part both) (ne-eqb held 0 there) ∙ is-joined hand-there
         ∙ sym (of-some hand run hand-there)
         ∙ sym (ap (λ (l : List ℕ). looked l part) hand-is ∙ ap (looked hand) run-is))
         (le-or-lt held 0)
       where
-        of-some : (hand run : List ℕ) → (length hand ≡ 0 → ⊥) → looked hand run ≡ hand ++ take (46 - length hand) run
+        of-some : (hand run : List ℕ) → (length hand ≡ 0 → ⊥) → looked hand run ≡ joined hand run
         of-some [] run h = absurd (h refl)
         of-some (b ∷ bs) run h = refl
 

@@ -7,7 +7,7 @@ use Prim.Native.Nat.{ℕ, _+_, _-_, _≤_, _<_, min, max}
 use native.Mathlib.Omega.{arith}
 use lib.Dec.{eqb}
 use lib.ListN.{length, getD, take, drop, replicate, length-append, length-take, length-drop, take-append-drop}
-use lib.Seq.{drop-append-le, length-take-le}
+use lib.Seq.{take-append-le, drop-append-le, length-take-le}
 use borrow.Author.Tests.{lt-ltb, le-ltb, lt-leb}
 use Rattle.lists.specs.Choice.{pick}
 use Rattle.lists.specs.Starting.{starting}
@@ -20,55 +20,47 @@ use Rattle.attempts.specs.Looks.{lookedAt}
 use Rattle.listening.specs.declared.Listening.{Listening}
 use Rattle.listening.specs.declared.Fed.{Fed}
 use Rattle.listening.specs.Listening.{firstCommand, firstReply, synDue, nothingDue, handRoom, inHand, hasAnswered, inHandNow, isCommand, onTaken, onNacked, onAttempt, onSyn, hear, after, listened}
-use Rattle.feeding.specs.Inner.{stepBy, stepOn, Turned}
+use Rattle.feeding.specs.Inner.{stepBy, stepOn, joinedRoom, joined, Turned}
 use Rattle.listening.proofs.Undecided.{in-hand-now}
 use Rattle.feeding.proofs.AtOnce.{same-step, at-once}
 
 -- ---- the bytes in hand, and behind them as many of a run as there is room for
 
-module _ (hand run first last : List ℕ) (within : length hand ≤ handRoom) (put-first : first ≡ starting (take 46 hand) (replicate 46 0))
-    (put-last : last ≡ starting (take (length (take (46 - length hand) (drop (length hand) first))) run) (take (46 - length hand) (drop (length hand) first))) where
-  abbrev n : ℕ
-  n = length hand
+module _ (raw : List ℕ) (n : ℕ) (run old first last : List ℕ) (some : n ≤ handRoom) (size : length raw ≡ handRoom) (room : length old ≡ joinedRoom)
+    (put-first : first ≡ starting (take (length old) raw) old)
+    (put-last : last ≡ starting (take (length (take (length first - n) (drop n first))) run) (take (length first - n) (drop n first))) where
+  abbrev hand : List ℕ
+  hand = take n raw
 
-  abbrev joined : List ℕ
-  joined = take n first ++ (last ++ drop (46 - n) (drop n first))
+  abbrev free : List ℕ
+  free = take (length first - n) (drop n first)
 
-  first-is : first ≡ starting hand (replicate 46 0)
-  first-is = put-first ∙ put-whole hand (replicate 46 0) (omega arith)
+  abbrev end : List ℕ
+  end = drop (length first - n) (drop n first)
 
-  first-long : length first ≡ 46
-  first-long = ap length first-is ∙ length-starting hand (replicate 46 0) (omega arith)
+  hand-long : length hand ≡ n
+  hand-long = length-take-le n raw (omega arith)
 
-  left : length (take (46 - n) (drop n first)) ≡ 46 - n
-  left = length-take-le (46 - n) (drop n first) (omega (arith, first-long, length-drop n first))
+  first-is : first ≡ starting raw old
+  first-is = put-first ∙ put-whole raw old (omega arith)
 
-  module _ (k : ℕ) (is : k ≡ min (46 - n) (length run)) where
-    pub joined-is : take (n + k) joined ≡ hand ++ take (46 - n) run
-    joined-is =
-        let bs = take (46 - n) run in
-        let rest = drop (length bs) (take (46 - n) (drop n first)) in
-        let end = drop (46 - n) (drop n first) in
-        let count : length bs ≡ min (46 - n) (length run) = length-take (46 - n) run in
-        let last-is : last ≡ bs ++ rest = put-last ∙ ap (λ (k : ℕ). starting (take k run) (take (46 - n) (drop n first))) left in
-        ap (λ (m : ℕ). take (n + m) joined) (is ∙ sym count)
-        ∙ ap (λ (x : List ℕ). take (n + length bs) (take n first ++ x)) (ap (λ (x : List ℕ). x ++ end) last-is ∙ append-assoc bs rest end)
-        ∙ put-behind first n bs (rest ++ end) (omega (arith, first-long))
-        ∙ ap (λ (x : List ℕ). x ++ bs) (ap (take n) first-is ∙ start-of hand (replicate 46 0) n refl)
+  first-long : length first ≡ joinedRoom
+  first-long = ap length first-is ∙ length-starting raw old (omega arith) ∙ room
 
-    pub joined-long : n + k ≤ length joined
-    joined-long =
-        omega (
-          arith,
-          length-append (take n first) (last ++ drop (46 - n) (drop n first)),
-          length-append last (drop (46 - n) (drop n first)),
-          length-take-le n first (omega (arith, first-long)),
-          ap length put-last ∙ length-starting (take (length (take (46 - n) (drop n first))) run) (take (46 - n) (drop n first)) (omega (arith, length-take (length (take (46 - n) (drop n first))) run)),
-          left,
-        )
+  left : length free ≡ joinedRoom - n
+  left = length-take-le (length first - n) (drop n first) (omega (arith, first-long, length-drop n first)) ∙ ap (λ (k : ℕ). k - n) first-long
 
-    pub joined-size : length (take (n + k) joined) ≡ n + k
-    joined-size = ap length joined-is ∙ length-append hand (take (46 - n) run) ∙ omega (arith, length-take (46 - n) run)
+  pub joined-is : take (min joinedRoom (n + length run)) (take n first ++ (last ++ end)) ≡ joined hand run
+  joined-is =
+      let bs = take (joinedRoom - n) run in
+      let rest = drop (length bs) free in
+      let last-is : last ≡ bs ++ rest = put-last ∙ ap (λ (k : ℕ). starting (take k run) free) left in
+      let count : min joinedRoom (n + length run) ≡ n + length bs = omega (arith, length-take (joinedRoom - n) run) in
+      ap (λ (m : ℕ). take m (take n first ++ (last ++ end))) count
+      ∙ ap (λ (x : List ℕ). take (n + length bs) (take n first ++ x)) (ap (λ (x : List ℕ). x ++ end) last-is ∙ append-assoc bs rest end)
+      ∙ put-behind first n bs (rest ++ end) (omega (arith, first-long))
+      ∙ ap (λ (x : List ℕ). x ++ bs) (ap (take n) first-is ∙ take-append-le n raw (drop (length raw) old) (omega arith))
+      ∙ ap (λ (k : ℕ). hand ++ take (joinedRoom - k) run) (sym hand-long)
 
 -- ---- how far a state comes
 
@@ -129,21 +121,21 @@ turned-alone s tries empty run some-run f is =
 
 -- the bytes in hand are joined with some of the run
 pub turned-joined : (s₀ : Listening) → s₀ .due < synDue → (hand run : List ℕ) → length hand ≤ handRoom → 0 < length run
-    → (f : Fed) → f ≡ stepOn s₀ (hand ++ take (46 - length hand) run) (length hand + 1)
+    → (f : Fed) → f ≡ stepOn s₀ (joined hand run) (length hand + 1)
     → (length hand < f .used) × Turned (inHandNow s₀ hand) run (counting f (f .used - length hand))
 turned-joined s₀ tries hand run within some-run f is =
     let s = inHandNow s₀ hand in
     let n = length hand in
-    let r = take (46 - n) run in
+    let r = take (joinedRoom - n) run in
     let c = hand ++ r in
     let g = stepOn s c (n + 1) in
     let f-is : f ≡ g = is ∙ sym (same-step s₀ hand c (max (n + 1) (lookedAt (isCommand s₀) c 0)) (attemptAt (isCommand s₀) c 0)) in
-    let more : 0 < length r = omega (arith, length-take (46 - n) run) in
-    let t = turned s tries hand (in-hand-now s₀ hand) r (drop (46 - n) run) more (g .used - n) refl in
+    let more : 0 < length r = omega (arith, length-take (joinedRoom - n) run) in
+    let t = turned s tries hand (in-hand-now s₀ hand) r (drop (joinedRoom - n) run) more (g .used - n) refl in
     let used-is : f .used ≡ g .used = ap (λ (x : Fed). x .used) f-is in (
       omega (arith, t .some),
       subst (λ (x : Fed). Turned s run (counting x (x .used - n))) (sym f-is)
-          (subst (λ (x : List ℕ). Turned s x (counting g (g .used - n))) (take-append-drop (46 - n) run) t),
+          (subst (λ (x : List ℕ). Turned s x (counting g (g .used - n))) (take-append-drop (joinedRoom - n) run) t),
     )
 
 -- SYN is due

@@ -1,11 +1,11 @@
 -- What only private contracts need: what an attempt makes of a state when all the bytes that are there are looked at at once.
 -- Assumes nothing.
 use mathlib.Core.Path.{_≡_}
-use Prim.Native.Nat.{ℕ, _+_, _≤_, _<_, max}
+use Prim.Native.Nat.{ℕ, _+_, _-_, _≤_, _<_, max}
 use mathlib.Core.Bool.{Bool, true}
-use mathlib.Core.List.{List}
+use mathlib.Core.List.{List, _++_}
 use lib.Dec.{eqb, ltb}
-use lib.ListN.{length, getD, drop, replicate}
+use lib.ListN.{length, getD, take, drop, replicate}
 use Rattle.lists.specs.Choice.{pick}
 use Rattle.refusal.specs.Number.{runEnded}
 use Rattle.attempts.specs.Attempt.{Attempt, taken, nacked, failed, attemptAt}
@@ -18,10 +18,14 @@ use Rattle.feeding.specs.declared.attempt.Step.{Step}
 
 -- ---- marks
 
--- the state with these marks and this kept, and nothing in hand
+-- the state with these marks and these bytes, of which so many are in hand
+abbrev pub stateWith : Marks → ℕ → List ℕ → List ℕ → Listening
+stateWith m held raw kept =
+    record { start = m .start; place = m .place; due = m .due; number = m .number; held = held; «command_attempts» = m .«command_attempts»; «reply_attempts» = m .«reply_attempts»; «command_length» = m .«command_length»; «reply_1_length» = m .«reply_1_length»; «reply_2_length» = m .«reply_2_length»; raw = raw; kept = kept }
+
+-- .. and nothing in hand
 abbrev pub stateOf : Marks → List ℕ → Listening
-stateOf m kept =
-    record { start = m .start; place = m .place; due = m .due; number = m .number; held = 0; «command_attempts» = m .«command_attempts»; «reply_attempts» = m .«reply_attempts»; «command_length» = m .«command_length»; «reply_1_length» = m .«reply_1_length»; «reply_2_length» = m .«reply_2_length»; raw = replicate handRoom 0; kept = kept }
+stateOf m kept = stateWith m 0 (replicate handRoom 0) kept
 
 abbrev pub commandDue : Marks → Bool
 commandDue m = ltb (m .due) firstReply
@@ -55,6 +59,17 @@ stepOn s c least = stepBy s c (max least (lookedAt (isCommand s) c 0)) (attemptA
 -- .. or the byte that is due to be SYN
 abbrev pub turnOn : Listening → List ℕ → ℕ → Fed
 turnOn s c least = pick (ltb (s .due) synDue) (stepOn s c least) (record { state = onSyn s (getD c 0 0); used = 1 })
+
+-- ---- the bytes in hand and a run
+
+-- room for the bytes in hand and some of a run behind them. It is more than what can stay in hand, so that an attempt which
+-- is open has looked at the whole run
+abbrev pub joinedRoom : ℕ
+joinedRoom = 64
+
+-- the bytes in hand, and behind them those of a run that there is room for
+abbrev pub joined : List ℕ → List ℕ → List ℕ
+joined hand run = hand ++ take (joinedRoom - length hand) run
 
 -- ---- a turn
 

@@ -8,8 +8,7 @@ mod marks;
 
 use crate::attempt::turn;
 use crate::marks::Marks;
-use crate::marks::in_hand;
-use crate::marks::whole;
+use crate::marks::with_marks;
 use checkbyte::ebus_tables;
 use exchange::judge::LIMIT;
 use listening::Fed;
@@ -23,17 +22,24 @@ use listening::heard;
 use lists::put;
 use lists::smaller;
 ghost use mathlib.Core.Path.{_≡_};
-ghost use mathlib.Core.List.{_++_};
-ghost use Prim.Native.Nat.{_+_, _-_, _≤_, _<_, min};
+ghost use Prim.Native.Nat.{_+_, _≤_, _<_, min};
 ghost use lib.Dec.{eqb, ltb};
-ghost use lib.ListN.{length, take};
+ghost use lib.ListN.{length, take, replicate};
 ghost use Rattle.lists.specs.Choice.{pick};
 ghost use Rattle.exchange.specs.Exchange.{limit};
 ghost use Rattle.listening.specs.Listening.{handRoom, synDue, inHandNow, listened, fed};
-ghost use Rattle.feeding.specs.Inner.{stateOf};
+ghost use Rattle.feeding.specs.Inner.{stateWith, stateOf, joinedRoom, joined};
 
-// Room for the bytes in hand and one more, which are as many as an attempt looks at.
-const JOINED: usize = HAND_ROOM + 1;
+// Room for the bytes in hand and some of a run: more than can stay in hand, so that an attempt which
+// is still open has looked at all of the run. With 64 they are copied sixteen at a time.
+const JOINED: usize = 64;
+
+// What a run leaves: the marks, how many bytes are in hand, and how many of the run were used.
+struct Left {
+    pub marks: Marks,
+    pub held: u8,
+    pub used: usize,
+}
 
 // How many bytes an attempt has in hand: where SYN is due, there is none.
 fn attempt_length(due: u8, held: u8) -> usize
@@ -45,19 +51,17 @@ fn attempt_length(due: u8, held: u8) -> usize
     0
 }
 
-// The bytes in hand, if there are any, and behind them those of a run that the attempt may look at.
-fn join(hand: &[u8], run: &[u8]) -> [u8; JOINED]
-    requires { ⌜ length (now hand) ≤ handRoom ⌝ }
-    ensures { λ r. ⌜ ((length (now (hand .entry)) ≡ 0 → ⊥) → take (length (now (hand .entry)) + min (46 - length (now (hand .entry))) (length (now (run .entry)))) r ≡ now (hand .entry) ++ take (46 - length (now (hand .entry))) (now (run .entry))) ⌝ }
+// The first n raw bytes, if there are any, and behind them those of a run that there is room for. All
+// the raw bytes are copied, as many as are known beforehand, and the run goes over those behind.
+fn join(raw: &[u8; HAND_ROOM], n: usize, run: &[u8], both: &mut [u8])
+    requires { ⌜ (n ≤ handRoom) × (length (now both) ≡ joinedRoom) ⌝ }
+    ensures { λ _. ⌜ ((n ≡ 0 → ⊥) → take (min joinedRoom (n + length (now (run .entry)))) (now (both .exit)) ≡ joined (take n (now (raw .entry))) (now (run .entry))) ⌝ }
 {
-    let n = hand.len();
-    let mut both = [0u8; JOINED];
     if n == 0 {
-        return both;
+        return;
     }
-    put(hand, &mut both);
+    put(raw, both);
     put(run, &mut both[n..]);
-    both
 }
 
 // The bytes to look at: what is left of a run, or where so many are in hand, those joined with it.
@@ -70,38 +74,48 @@ fn bytes_at<'a>(held: usize, both: &'a [u8], run: &'a [u8]) -> &'a [u8]
     both
 }
 
-// Decision after decision, with these bytes in hand before the run.
-fn fed_on(first: Marks, hand: &[u8], run: &[u8], kept: &mut [u8; KEPT_ROOM]) -> Fed
-    requires { ⌜ (length (now hand) ≤ handRoom) × ((length (now hand) ≡ 0 → ⊥) → first .due < synDue) × (0 < length (now run)) × (first .start + length (now hand) + length (now run) ≤ limit) ⌝ }
-    ensures { λ r. ⌜ r ≡ listened (inHandNow (stateOf first (now (kept .entry))) (now (hand .entry))) (now (run .entry)) ⌝ }
+// Decision after decision, with these bytes in hand before the run, and both joined. Bytes that stay
+// in hand are put into `raw`.
+fn fed_on<'a>(
+    first: Marks,
+    hand: &[u8],
+    both: &'a [u8],
+    run: &'a [u8],
+    raw: &mut [u8; HAND_ROOM],
+    kept: &mut [u8; KEPT_ROOM],
+) -> Left
+    requires { ⌜ (length (now hand) ≤ handRoom) × ((length (now hand) ≡ 0 → ⊥) → first .due < synDue) × (0 < length (now run)) × (first .start + length (now hand) + length (now run) ≤ limit) × ((length (now hand) ≡ 0 → ⊥) → now both ≡ joined (now hand) (now run)) × (now raw ≡ replicate handRoom 0) ⌝ }
+    ensures { λ r. ⌜ record { state = stateWith (r .marks) (r .held) (now (raw .exit)) (now (kept .exit)); used = r .used } ≡ listened (inHandNow (stateOf first (now (kept .entry))) (now (hand .entry))) (now (run .entry)) ⌝ }
 {
     let tables = ebus_tables();
-    let both = join(hand, run);
-    let end = hand.len() + smaller(JOINED - hand.len(), run.len());
     let mut m = first;
     let mut held = hand.len();
     let mut i = 0;
     while i < run.len() {
         if NOTHING_DUE <= m.due {
-            return Fed {
-                state: whole(m, *kept),
+            return Left {
+                marks: m,
+                held: 0,
                 used: i,
             };
         }
-        let bytes = bytes_at(held, &both[..end], &run[i..]);
+        let bytes = bytes_at(held, both, &run[i..]);
         let t = turn(m, bytes, held + 1, &tables, kept);
         m = t.marks;
         if t.open {
-            return Fed {
-                state: in_hand(m, *kept, bytes),
+            put(bytes, raw);
+            return Left {
+                marks: m,
+                held: bytes.len() as u8,
                 used: run.len(),
             };
         }
         i += t.used - held;
         held = 0;
     }
-    Fed {
-        state: whole(m, *kept),
+    Left {
+        marks: m,
+        held: 0,
         used: i,
     }
 }
@@ -132,7 +146,22 @@ pub fn feed(state: Listening, run: &[u8]) -> Fed
         reply_1_length: state.reply_1_length,
         reply_2_length: state.reply_2_length,
     };
-    let raw = state.raw;
+    let old = state.raw;
     let mut kept = state.kept;
-    fed_on(m, &raw[..hand], &run[..n], &mut kept)
+    let mut both = [0u8; JOINED];
+    join(&old, hand, &run[..n], &mut both);
+    let joined = smaller(JOINED, hand + n);
+    let mut raw = [0u8; HAND_ROOM];
+    let left = fed_on(
+        m,
+        &old[..hand],
+        &both[..joined],
+        &run[..n],
+        &mut raw,
+        &mut kept,
+    );
+    Fed {
+        state: with_marks(left.marks, left.held, raw, kept),
+        used: left.used,
+    }
 }

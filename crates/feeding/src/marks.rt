@@ -3,12 +3,8 @@ use listening::HAND_ROOM;
 use listening::KEPT_ROOM;
 use listening::Listening;
 use listening::NOTHING_DUE;
-use lists::put;
 ghost use mathlib.Core.Path.{_≡_};
-ghost use Prim.Native.Nat.{_≤_};
-ghost use lib.ListN.{length};
-ghost use Rattle.listening.specs.Listening.{handRoom, inHandNow};
-ghost use Rattle.feeding.specs.Inner.{stateOf, answersOn};
+ghost use Rattle.feeding.specs.Inner.{stateWith, answersOn};
 
 // The numbers of a state with nothing in hand.
 pub(crate) struct Marks {
@@ -34,39 +30,21 @@ pub(crate) fn answers(mut m: Marks, start: usize, number: u8, place: usize) -> M
     m
 }
 
-// The state with what is kept, and nothing in hand.
-pub(crate) fn whole(m: Marks, kept: [u8; KEPT_ROOM]) -> Listening
-    ensures { λ r. ⌜ r ≡ stateOf m kept ⌝ }
+// The state with these bytes, of which so many are in hand.
+pub(crate) fn with_marks(
+    m: Marks,
+    held: u8,
+    raw: [u8; HAND_ROOM],
+    kept: [u8; KEPT_ROOM],
+) -> Listening
+    ensures { λ r. ⌜ r ≡ stateWith m held raw kept ⌝ }
 {
     Listening {
         start: m.start,
         place: m.place,
         due: m.due,
         number: m.number,
-        held: 0,
-        command_attempts: m.command_attempts,
-        reply_attempts: m.reply_attempts,
-        command_length: m.command_length,
-        reply_1_length: m.reply_1_length,
-        reply_2_length: m.reply_2_length,
-        raw: [0u8; HAND_ROOM],
-        kept,
-    }
-}
-
-// .. and these bytes in hand.
-pub(crate) fn in_hand(m: Marks, kept: [u8; KEPT_ROOM], bytes: &[u8]) -> Listening
-    requires { ⌜ length (now bytes) ≤ handRoom ⌝ }
-    ensures { λ r. ⌜ r ≡ inHandNow (stateOf m kept) (now (bytes .entry)) ⌝ }
-{
-    let mut raw = [0u8; HAND_ROOM];
-    put(bytes, &mut raw);
-    Listening {
-        start: m.start,
-        place: m.place,
-        due: m.due,
-        number: m.number,
-        held: bytes.len() as u8,
+        held,
         command_attempts: m.command_attempts,
         reply_attempts: m.reply_attempts,
         command_length: m.command_length,

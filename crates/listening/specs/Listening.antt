@@ -42,10 +42,10 @@ synDue = 4
 abbrev pub nothingDue : ℕ
 nothingDue = 5
 
--- room for the raw bytes of an attempt: two for each of 22 logical ones, and its acknowledge byte. It is a bound: by rule E11
--- an attempt takes 42 at most
+-- room for the raw bytes of an attempt: two for each of 22 logical ones, its acknowledge byte, and one that fills the state. It
+-- is a bound: by rule E11 an attempt takes 42 at most
 abbrev pub handRoom : ℕ
-handRoom = 45
+handRoom = 46
 
 -- where the replies stand behind the command, and room for all three
 abbrev pub firstPlace : ℕ

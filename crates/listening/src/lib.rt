@@ -24,8 +24,9 @@ pub const SYN_DUE: u8 = 4;
 
 pub const NOTHING_DUE: u8 = 5;
 
-// Room for the raw bytes of an attempt: 22 that take two each, and its acknowledge byte.
-pub const HAND_ROOM: usize = 45;
+// Room for the raw bytes of an attempt: 22 that take two each, and its acknowledge byte, and one more,
+// with which a state has 128 bytes and none that is in no field, so that it is copied sixteen at a time.
+pub const HAND_ROOM: usize = 46;
 
 // Where the replies are kept behind the command, and room for all three.
 pub const FIRST_PLACE: usize = 22;

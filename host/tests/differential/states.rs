@@ -13,7 +13,7 @@ use crate::session::{same, same_between, Function, Session};
 /// From this on a state has answered.
 const ANSWERED: u8 = 5;
 /// So many raw bytes are in hand at most.
-const MOST_HELD: u8 = 45;
+const MOST_HELD: u8 = 46;
 
 /// Hands in one state, and holds the calls on it to what is promised of any
 /// bytes. It counts as a feeding, which is never refused.
@@ -142,7 +142,7 @@ fn any_bytes(random: &mut Random) -> sys::Listening {
         command_length: byte(),
         reply_1_length: byte(),
         reply_2_length: byte(),
-        raw: [(); 45].map(|()| byte()),
+        raw: [(); 46].map(|()| byte()),
         kept: [(); 58].map(|()| byte()),
     }
 }
@@ -160,7 +160,7 @@ fn likely(random: &mut Random) -> sys::Listening {
         command_length: random.below(25) as u8,
         reply_1_length: random.below(21) as u8,
         reply_2_length: random.below(21) as u8,
-        raw: [(); 45].map(|()| random.byte()),
+        raw: [(); 46].map(|()| random.byte()),
         kept: [(); 58].map(|()| random.byte()),
     }
 }
@@ -196,7 +196,7 @@ fn change(random: &mut Random, state: &mut sys::Listening) {
         7 => state.command_length = random.pick(&[0, 5, 22, 23, 58, 59, 0xFF]),
         8 => state.reply_1_length = random.pick(&[0, 1, 18, 19, 36, 37, 0xFF]),
         9 => state.reply_2_length = random.pick(&[0, 1, 18, 19, 0xFF]),
-        10 => state.raw[random.below(45)] = random.byte(),
+        10 => state.raw[random.below(46)] = random.byte(),
         _ => state.kept[random.below(58)] = random.byte(),
     }
 }

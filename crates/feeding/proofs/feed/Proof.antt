@@ -1,11 +1,14 @@
 -- `feeding::feed` meets its contract: by what is in hand.
 -- Assumes nothing.
-use mathlib.Core.Path.{_≡_, sym, _∙_}
-use Prim.Native.Nat.{_<_}
+use mathlib.Core.Path.{_≡_, sym, ap, _∙_}
+use Prim.Native.Nat.{ℕ, _+_, _<_, min}
 use native.Mathlib.Omega.{arith}
 use lib.ListN.{length, take}
+use lib.Seq.{length-take-le}
+use Rattle.listening.specs.declared.Listening.{Listening}
 use Rattle.listening.specs.Listening.{handRoom}
 use Rattle.listening.proofs.Undecided.{hand-size}
+use Rattle.feeding.specs.Inner.{joinedRoom}
 use Rattle.feeding.proofs.Begun.{begun-due, begun-within, begun-long, begun}
 use Rattle.feeding.proofs.Feeding.{read-long, read-from, read-bound, feeding-all, listened-none, listened-answered}
 use borrow.Author.Needs.{needs}
@@ -34,40 +37,71 @@ returns-2 c = feeding-all (c .before .before .before .before .before .before .ar
 attempt-length-requires : tie.Need-attempt-length-requires
 attempt-length-requires c κs = search needs
 
-sub-t9 : tie.Need-sub-t9
-sub-t9 c =
+sub-t13 : tie.Need-sub-t13
+sub-t13 c =
     let from = read-from (c .before .before .before .before .before .before .before .args .state) (raw-size (c .before .before .before .before .before .before .before)) (c .before .before .before .before .before .before .before .args .run .now) (c .before .before .before .before .smaller .result) (c .before .before .before .before .before .heard .result) (c .before .before .before .before .before .heard .ensures) (c .before .before .before .before .smaller .ensures) (c .before .before .before .if1 .left) in
     let within = begun-within (c .before .before .before .before .before .before .before .args .state) (raw-size (c .before .before .before .before .before .before .before)) (c .attempt-length .result) (c .attempt-length .ensures) in
     omega (arith, from, within)
 
-array-share-prefix-raw : tie.Need-array-share-prefix-raw
-array-share-prefix-raw c =
-    let within = begun-within (c .before .before .before .before .before .before .before .before .before .args .state) (raw-size (c .before .before .before .before .before .before .before .before .before)) (c .before .before .attempt-length .result) (c .before .before .attempt-length .ensures) in
-    omega (arith, within, hand-size (c .before .before .before .before .before .before .before .before .before .args .state) (raw-size (c .before .before .before .before .before .before .before .before .before)), raw-size (c .before .before .before .before .before .before .before .before .before))
+slice-aggregate-join : tie.Need-slice-aggregate-join
+slice-aggregate-join c = sym (read-long (c .before .before .before .before .before .before .before .before .before .before .before .args .state) (raw-size (c .before .before .before .before .before .before .before .before .before .before .before)) (c .before .before .before .before .before .before .before .before .before .before .before .args .run .now) (c .before .before .before .before .before .before .before .before .smaller .result) (c .before .before .before .before .before .before .before .before .before .heard .result) (c .before .before .before .before .before .before .before .before .before .heard .ensures) (c .before .before .before .before .before .before .before .before .smaller .ensures))
+
+slice-aggregate-join-2 : tie.Need-slice-aggregate-join-2
+slice-aggregate-join-2 c = search needs
+
+join-requires : tie.Need-join-requires
+join-requires c κs = (omega (arith, begun-within (c .before .before .before .before .before .before .before .before .before .before .before .before .args .state) (raw-size (c .before .before .before .before .before .before .before .before .before .before .before .before)) (c .before .before .before .before .before .attempt-length .result) (c .before .before .before .before .before .attempt-length .ensures), hand-size (c .before .before .before .before .before .before .before .before .before .before .before .before .args .state) (raw-size (c .before .before .before .before .before .before .before .before .before .before .before .before))), search needs)
+
+add-smaller : tie.Need-add-smaller
+add-smaller c = omega (arith, begun-within (c .before .before .before .before .before .before .before .before .before .before .before .before .before .before .args .state) (raw-size (c .before .before .before .before .before .before .before .before .before .before .before .before .before .before)) (c .before .before .before .before .before .before .before .attempt-length .result) (c .before .before .before .before .before .before .before .attempt-length .ensures), hand-size (c .before .before .before .before .before .before .before .before .before .before .before .before .before .before .args .state) (raw-size (c .before .before .before .before .before .before .before .before .before .before .before .before .before .before)), c .before .before .before .before .before .before .before .before .before .before .before .smaller .ensures)
+
+smaller-requires-2 : tie.Need-smaller-requires-2
+smaller-requires-2 c κs = search needs
+
+array-share-prefix-old : tie.Need-array-share-prefix-old
+array-share-prefix-old c = omega (arith, begun-within (c .before .before .before .before .before .before .before .before .before .before .before .before .before .before .before .args .state) (raw-size (c .before .before .before .before .before .before .before .before .before .before .before .before .before .before .before)) (c .before .before .before .before .before .before .before .before .attempt-length .result) (c .before .before .before .before .before .before .before .before .attempt-length .ensures), hand-size (c .before .before .before .before .before .before .before .before .before .before .before .before .before .before .before .args .state) (raw-size (c .before .before .before .before .before .before .before .before .before .before .before .before .before .before .before)), raw-size (c .before .before .before .before .before .before .before .before .before .before .before .before .before .before .before))
 
 slice-aggregate-fed-on : tie.Need-slice-aggregate-fed-on
-slice-aggregate-fed-on c = sym (begun-long (c .before .before .before .before .before .before .before .before .before .before .args .state) (raw-size (c .before .before .before .before .before .before .before .before .before .before)) (c .before .before .before .attempt-length .result) (c .before .before .before .attempt-length .ensures))
+slice-aggregate-fed-on c = sym (begun-long (c .before .before .before .before .before .before .before .before .before .before .before .before .before .before .before .before .args .state) (raw-size (c .before .before .before .before .before .before .before .before .before .before .before .before .before .before .before .before)) (c .before .before .before .before .before .before .before .before .before .attempt-length .result) (c .before .before .before .before .before .before .before .before .before .attempt-length .ensures))
+
+array-share-prefix-both : tie.Need-array-share-prefix-both
+array-share-prefix-both c = search needs
 
 slice-aggregate-fed-on-2 : tie.Need-slice-aggregate-fed-on-2
-slice-aggregate-fed-on-2 c = sym (read-long (c .before .before .before .before .before .before .before .before .before .before .before .args .state) (raw-size (c .before .before .before .before .before .before .before .before .before .before .before)) (c .before .before .before .before .before .before .before .before .before .before .before .args .run .now) (c .before .before .before .before .before .before .before .before .smaller .result) (c .before .before .before .before .before .before .before .before .before .heard .result) (c .before .before .before .before .before .before .before .before .before .heard .ensures) (c .before .before .before .before .before .before .before .before .smaller .ensures))
+slice-aggregate-fed-on-2 c =
+    let size : length (c .before .before .before .before .join .last .1 .1 .1 .0) ≡ joinedRoom = search needs in
+    sym (length-take-le (c .before .before .smaller2 .result) (c .before .before .before .before .join .last .1 .1 .1 .0) (omega (arith, c .before .before .smaller2 .ensures)))
+
+slice-aggregate-fed-on-3 : tie.Need-slice-aggregate-fed-on-3
+slice-aggregate-fed-on-3 c = sym (read-long (c .before .before .before .before .before .before .before .before .before .before .before .before .before .before .before .before .before .before .args .state) (raw-size (c .before .before .before .before .before .before .before .before .before .before .before .before .before .before .before .before .before .before)) (c .before .before .before .before .before .before .before .before .before .before .before .before .before .before .before .before .before .before .args .run .now) (c .before .before .before .before .before .before .before .before .before .before .before .before .before .before .before .smaller .result) (c .before .before .before .before .before .before .before .before .before .before .before .before .before .before .before .before .heard .result) (c .before .before .before .before .before .before .before .before .before .before .before .before .before .before .before .before .heard .ensures) (c .before .before .before .before .before .before .before .before .before .before .before .before .before .before .before .smaller .ensures))
 
 fed-on-requires : tie.Need-fed-on-requires
 fed-on-requires c κs =
-    let within = begun-within (c .before .before .before .before .before .before .before .before .before .before .before .before .args .state) (raw-size (c .before .before .before .before .before .before .before .before .before .before .before .before)) (c .before .before .before .before .before .attempt-length .result) (c .before .before .before .before .before .attempt-length .ensures) in
-    let hand-long = begun-long (c .before .before .before .before .before .before .before .before .before .before .before .before .args .state) (raw-size (c .before .before .before .before .before .before .before .before .before .before .before .before)) (c .before .before .before .before .before .attempt-length .result) (c .before .before .before .before .before .attempt-length .ensures) in
-    let in-hand = hand-size (c .before .before .before .before .before .before .before .before .before .before .before .before .args .state) (raw-size (c .before .before .before .before .before .before .before .before .before .before .before .before)) in
-    let long = read-long (c .before .before .before .before .before .before .before .before .before .before .before .before .args .state) (raw-size (c .before .before .before .before .before .before .before .before .before .before .before .before)) (c .before .before .before .before .before .before .before .before .before .before .before .before .args .run .now) (c .before .before .before .before .before .before .before .before .before .smaller .result) (c .before .before .before .before .before .before .before .before .before .before .heard .result) (c .before .before .before .before .before .before .before .before .before .before .heard .ensures) (c .before .before .before .before .before .before .before .before .before .smaller .ensures) in
-    let from = read-from (c .before .before .before .before .before .before .before .before .before .before .before .before .args .state) (raw-size (c .before .before .before .before .before .before .before .before .before .before .before .before)) (c .before .before .before .before .before .before .before .before .before .before .before .before .args .run .now) (c .before .before .before .before .before .before .before .before .before .smaller .result) (c .before .before .before .before .before .before .before .before .before .before .heard .result) (c .before .before .before .before .before .before .before .before .before .before .heard .ensures) (c .before .before .before .before .before .before .before .before .before .smaller .ensures) (c .before .before .before .before .before .before .before .before .if1 .left) in
-    let bound = read-bound (c .before .before .before .before .before .before .before .before .before .before .before .before .args .state) (raw-size (c .before .before .before .before .before .before .before .before .before .before .before .before)) (c .before .before .before .before .before .before .before .before .before .before .before .before .args .run .now) (c .before .before .before .before .before .before .before .before .before .smaller .result) (c .before .before .before .before .before .before .before .before .before .before .heard .result) (c .before .before .before .before .before .before .before .before .before .before .heard .ensures) (c .before .before .before .before .before .before .before .before .before .smaller .ensures) (c .before .before .before .before .before .before .before .before .if1 .left) in
-    (omega (arith, within, hand-long, in-hand), λ some. begun-due (c .before .before .before .before .before .before .before .before .before .before .before .before .args .state) (raw-size (c .before .before .before .before .before .before .before .before .before .before .before .before)) (c .before .before .before .before .before .attempt-length .result) (c .before .before .before .before .before .attempt-length .ensures) (λ e. some (hand-long ∙ e)), omega (arith, long, c .before .before .before .before .before .before .before .before .if1 .left), omega (arith, within, hand-long, long, from, bound))
+    let within = begun-within (c .before .before .before .before .before .before .before .before .before .before .before .before .before .before .before .before .before .before .before .before .args .state) (raw-size (c .before .before .before .before .before .before .before .before .before .before .before .before .before .before .before .before .before .before .before .before)) (c .before .before .before .before .before .before .before .before .before .before .before .before .before .attempt-length .result) (c .before .before .before .before .before .before .before .before .before .before .before .before .before .attempt-length .ensures) in
+    let hand-long = begun-long (c .before .before .before .before .before .before .before .before .before .before .before .before .before .before .before .before .before .before .before .before .args .state) (raw-size (c .before .before .before .before .before .before .before .before .before .before .before .before .before .before .before .before .before .before .before .before)) (c .before .before .before .before .before .before .before .before .before .before .before .before .before .attempt-length .result) (c .before .before .before .before .before .before .before .before .before .before .before .before .before .attempt-length .ensures) in
+    let in-hand = hand-size (c .before .before .before .before .before .before .before .before .before .before .before .before .before .before .before .before .before .before .before .before .args .state) (raw-size (c .before .before .before .before .before .before .before .before .before .before .before .before .before .before .before .before .before .before .before .before)) in
+    let long = read-long (c .before .before .before .before .before .before .before .before .before .before .before .before .before .before .before .before .before .before .before .before .args .state) (raw-size (c .before .before .before .before .before .before .before .before .before .before .before .before .before .before .before .before .before .before .before .before)) (c .before .before .before .before .before .before .before .before .before .before .before .before .before .before .before .before .before .before .before .before .args .run .now) (c .before .before .before .before .before .before .before .before .before .before .before .before .before .before .before .before .before .smaller .result) (c .before .before .before .before .before .before .before .before .before .before .before .before .before .before .before .before .before .before .heard .result) (c .before .before .before .before .before .before .before .before .before .before .before .before .before .before .before .before .before .before .heard .ensures) (c .before .before .before .before .before .before .before .before .before .before .before .before .before .before .before .before .before .smaller .ensures) in
+    let from = read-from (c .before .before .before .before .before .before .before .before .before .before .before .before .before .before .before .before .before .before .before .before .args .state) (raw-size (c .before .before .before .before .before .before .before .before .before .before .before .before .before .before .before .before .before .before .before .before)) (c .before .before .before .before .before .before .before .before .before .before .before .before .before .before .before .before .before .before .before .before .args .run .now) (c .before .before .before .before .before .before .before .before .before .before .before .before .before .before .before .before .before .smaller .result) (c .before .before .before .before .before .before .before .before .before .before .before .before .before .before .before .before .before .before .heard .result) (c .before .before .before .before .before .before .before .before .before .before .before .before .before .before .before .before .before .before .heard .ensures) (c .before .before .before .before .before .before .before .before .before .before .before .before .before .before .before .before .before .smaller .ensures) (c .before .before .before .before .before .before .before .before .before .before .before .before .before .before .before .before .if1 .left) in
+    let bound = read-bound (c .before .before .before .before .before .before .before .before .before .before .before .before .before .before .before .before .before .before .before .before .args .state) (raw-size (c .before .before .before .before .before .before .before .before .before .before .before .before .before .before .before .before .before .before .before .before)) (c .before .before .before .before .before .before .before .before .before .before .before .before .before .before .before .before .before .before .before .before .args .run .now) (c .before .before .before .before .before .before .before .before .before .before .before .before .before .before .before .before .before .smaller .result) (c .before .before .before .before .before .before .before .before .before .before .before .before .before .before .before .before .before .before .heard .result) (c .before .before .before .before .before .before .before .before .before .before .before .before .before .before .before .before .before .before .heard .ensures) (c .before .before .before .before .before .before .before .before .before .before .before .before .before .before .before .before .before .smaller .ensures) (c .before .before .before .before .before .before .before .before .before .before .before .before .before .before .before .before .if1 .left) in (
+      omega (arith, within, hand-long, in-hand),
+      λ some. begun-due (c .before .before .before .before .before .before .before .before .before .before .before .before .before .before .before .before .before .before .before .before .args .state) (raw-size (c .before .before .before .before .before .before .before .before .before .before .before .before .before .before .before .before .before .before .before .before)) (c .before .before .before .before .before .before .before .before .before .before .before .before .before .attempt-length .result) (c .before .before .before .before .before .before .before .before .before .before .before .before .before .attempt-length .ensures) (λ e. some (hand-long ∙ e)),
+      omega (arith, long, c .before .before .before .before .before .before .before .before .before .before .before .before .before .before .before .before .if1 .left),
+      omega (arith, within, hand-long, long, from, bound),
+      λ some. ap (λ (k : ℕ). take k (c .before .before .before .before .before .before .before .join .last .1 .1 .1 .0)) (c .before .before .before .before .before .smaller2 .ensures ∙ ap (λ (k : ℕ). min joinedRoom (c .before .before .before .before .before .before .before .before .before .before .before .before .before .attempt-length .result + k)) (sym long)) ∙ c .before .before .before .before .before .before .before .join .ensures (λ e. some (hand-long ∙ e)),
+      search needs,
+    )
+
+with-marks-requires : tie.Need-with-marks-requires
+with-marks-requires c κs = search needs
 
 returns-3 : tie.Need-returns-3
 returns-3 c =
-    let part = take (c .before .before .before .before .before .before .before .before .before .before .smaller .result) (c .before .before .before .before .before .before .before .before .before .before .before .before .before .args .run .now) in
-    let long = read-long (c .before .before .before .before .before .before .before .before .before .before .before .before .before .args .state) (raw-size (c .before .before .before .before .before .before .before .before .before .before .before .before .before)) (c .before .before .before .before .before .before .before .before .before .before .before .before .before .args .run .now) (c .before .before .before .before .before .before .before .before .before .before .smaller .result) (c .before .before .before .before .before .before .before .before .before .before .before .heard .result) (c .before .before .before .before .before .before .before .before .before .before .before .heard .ensures) (c .before .before .before .before .before .before .before .before .before .before .smaller .ensures) in
-    let some : 0 < length part = omega (arith, long, c .before .before .before .before .before .before .before .before .before .if1 .left) in
-    let from = read-from (c .before .before .before .before .before .before .before .before .before .before .before .before .before .args .state) (raw-size (c .before .before .before .before .before .before .before .before .before .before .before .before .before)) (c .before .before .before .before .before .before .before .before .before .before .before .before .before .args .run .now) (c .before .before .before .before .before .before .before .before .before .before .smaller .result) (c .before .before .before .before .before .before .before .before .before .before .before .heard .result) (c .before .before .before .before .before .before .before .before .before .before .before .heard .ensures) (c .before .before .before .before .before .before .before .before .before .before .smaller .ensures) (c .before .before .before .before .before .before .before .before .before .if1 .left) in
-    feeding-all (c .before .before .before .before .before .before .before .before .before .before .before .before .before .args .state) (raw-size (c .before .before .before .before .before .before .before .before .before .before .before .before .before)) (c .before .before .before .before .before .before .before .before .before .before .before .before .before .args .run .now) (c .before .before .before .before .before .before .before .before .before .before .smaller .result) (c .before .before .before .before .before .before .before .before .before .before .before .heard .result) (c .before .before .before .before .before .before .before .before .before .before .before .heard .ensures) (c .before .before .before .before .before .before .before .before .before .before .smaller .ensures) _ (c .fed-on .ensures ∙ begun (c .before .before .before .before .before .before .before .before .before .before .before .before .before .args .state) (raw-size (c .before .before .before .before .before .before .before .before .before .before .before .before .before)) (c .before .before .before .before .before .before .attempt-length .result) (c .before .before .before .before .before .before .attempt-length .ensures) (c .before .before .before .before .before .before .before .if2 .left) (c .before .before .before .before .before .before .before .before .before .before .before .heard .result) from part some)
+    let part = take (c .before .before .before .before .before .before .before .before .before .before .before .before .before .before .before .before .before .before .before .smaller .result) (c .before .before .before .before .before .before .before .before .before .before .before .before .before .before .before .before .before .before .before .before .before .before .args .run .now) in
+    let long = read-long (c .before .before .before .before .before .before .before .before .before .before .before .before .before .before .before .before .before .before .before .before .before .before .args .state) (raw-size (c .before .before .before .before .before .before .before .before .before .before .before .before .before .before .before .before .before .before .before .before .before .before)) (c .before .before .before .before .before .before .before .before .before .before .before .before .before .before .before .before .before .before .before .before .before .before .args .run .now) (c .before .before .before .before .before .before .before .before .before .before .before .before .before .before .before .before .before .before .before .smaller .result) (c .before .before .before .before .before .before .before .before .before .before .before .before .before .before .before .before .before .before .before .before .heard .result) (c .before .before .before .before .before .before .before .before .before .before .before .before .before .before .before .before .before .before .before .before .heard .ensures) (c .before .before .before .before .before .before .before .before .before .before .before .before .before .before .before .before .before .before .before .smaller .ensures) in
+    let some : 0 < length part = omega (arith, long, c .before .before .before .before .before .before .before .before .before .before .before .before .before .before .before .before .before .before .if1 .left) in
+    let from = read-from (c .before .before .before .before .before .before .before .before .before .before .before .before .before .before .before .before .before .before .before .before .before .before .args .state) (raw-size (c .before .before .before .before .before .before .before .before .before .before .before .before .before .before .before .before .before .before .before .before .before .before)) (c .before .before .before .before .before .before .before .before .before .before .before .before .before .before .before .before .before .before .before .before .before .before .args .run .now) (c .before .before .before .before .before .before .before .before .before .before .before .before .before .before .before .before .before .before .before .smaller .result) (c .before .before .before .before .before .before .before .before .before .before .before .before .before .before .before .before .before .before .before .before .heard .result) (c .before .before .before .before .before .before .before .before .before .before .before .before .before .before .before .before .before .before .before .before .heard .ensures) (c .before .before .before .before .before .before .before .before .before .before .before .before .before .before .before .before .before .before .before .smaller .ensures) (c .before .before .before .before .before .before .before .before .before .before .before .before .before .before .before .before .before .before .if1 .left) in
+    feeding-all (c .before .before .before .before .before .before .before .before .before .before .before .before .before .before .before .before .before .before .before .before .before .before .args .state) (raw-size (c .before .before .before .before .before .before .before .before .before .before .before .before .before .before .before .before .before .before .before .before .before .before)) (c .before .before .before .before .before .before .before .before .before .before .before .before .before .before .before .before .before .before .before .before .before .before .args .run .now) (c .before .before .before .before .before .before .before .before .before .before .before .before .before .before .before .before .before .before .before .smaller .result) (c .before .before .before .before .before .before .before .before .before .before .before .before .before .before .before .before .before .before .before .before .heard .result) (c .before .before .before .before .before .before .before .before .before .before .before .before .before .before .before .before .before .before .before .before .heard .ensures) (c .before .before .before .before .before .before .before .before .before .before .before .before .before .before .before .before .before .before .before .smaller .ensures) _
+    (ap (λ (x : Listening). record { state = x; used = c .before .fed-on .result .used }) (c .with-marks .ensures) ∙ c .before .fed-on .ensures ∙ begun (c .before .before .before .before .before .before .before .before .before .before .before .before .before .before .before .before .before .before .before .before .before .before .args .state) (raw-size (c .before .before .before .before .before .before .before .before .before .before .before .before .before .before .before .before .before .before .before .before .before .before)) (c .before .before .before .before .before .before .before .before .before .before .before .before .before .before .before .attempt-length .result) (c .before .before .before .before .before .before .before .before .before .before .before .before .before .before .before .attempt-length .ensures) (c .before .before .before .before .before .before .before .before .before .before .before .before .before .before .before .before .if2 .left) (c .before .before .before .before .before .before .before .before .before .before .before .before .before .before .before .before .before .before .before .before .heard .result) from part some)
 
 pub feed-spec : {M : Type 1} → statement M
 feed-spec =
@@ -79,9 +113,17 @@ feed-spec =
     returns
     returns-2
     attempt-length-requires
-    sub-t9
-    array-share-prefix-raw
+    sub-t13
+    slice-aggregate-join
+    slice-aggregate-join-2
+    join-requires
+    add-smaller
+    smaller-requires-2
+    array-share-prefix-old
     slice-aggregate-fed-on
+    array-share-prefix-both
     slice-aggregate-fed-on-2
+    slice-aggregate-fed-on-3
     fed-on-requires
+    with-marks-requires
     returns-3)
