@@ -551,6 +551,27 @@ static void exchanges_accepted(void)
     EXPECT(reply_2[1] == 0x2A);
 }
 
+/* SYN before the first command has two logical bytes begins it afresh. */
+static void exchanges_behind_idle_time(void)
+{
+    bytes sent = BYTES(COMMAND), answered = BYTES(REPLY);
+    judge(BYTES(SYN, SYN, SYN, COMMAND, ACK, REPLY, ACK, SYN),
+          (exchange){JUDGED(MOOR_INITIATOR_TARGET, 1, 1, 16), sent, answered, none});
+    judge(BYTES(0x10, SYN, 0xA9, SYN, 0xFF, 0xA9, SYN, COMMAND, ACK, REPLY, ACK, SYN),
+          (exchange){JUDGED(MOOR_INITIATOR_TARGET, 1, 1, 20), sent, answered, none});
+    judge(BYTES(SYN, WRONG_COMMAND, NACK, COMMAND, ACK, REPLY, ACK, SYN),
+          (exchange){JUDGED(MOOR_INITIATOR_TARGET, 2, 1, 22), sent, answered, none});
+    judge(BYTES(SYN), NOT_JUDGED(MOOR_RUN_ENDED, 1));
+    judge(BYTES(SYN, SYN), NOT_JUDGED(MOOR_RUN_ENDED, 2));
+    judge(BYTES(0x10, 0xA9, SYN), NOT_JUDGED(MOOR_RUN_ENDED, 3));
+    judge(BYTES(SYN, 0xA9, 0x10), NOT_JUDGED(MOOR_ESCAPE_WRONG, 2));
+    judge(BYTES(SYN, 0x10, 0x08, SYN), NOT_JUDGED(MOOR_SYN_EARLY, 3));
+    judge(BYTES(SYN, COMMAND, NACK, SYN), NOT_JUDGED(MOOR_SYN_EARLY, 9));
+    judge(BYTES(0x02, SYN), NOT_JUDGED(MOOR_SOURCE_WRONG, 0));
+    judge(BYTES(SYN, 0x10, 0xA9, 0x00), NOT_JUDGED(MOOR_DESTINATION_WRONG, 2));
+    judge(BYTES(SYN, COMMAND, 0x55, REPLY, ACK, SYN), NOT_JUDGED(MOOR_BUS_ERROR, 8));
+}
+
 static void exchanges_refused(void)
 {
     judge(BYTES(COMMAND, 0x55, REPLY, ACK, SYN), NOT_JUDGED(MOOR_BUS_ERROR, 7)); /* W8 */
@@ -771,12 +792,33 @@ static void listening_to_wrong_starts(void)
     feed(&state, BYTES(0x00, 0x55), 1, true);
     stays_closed(&state, NOT_JUDGED(MOOR_DESTINATION_WRONG, 1));
     state = listen();
-    feed(&state, BYTES(0x10, 0xA9), 2, false);
+    feed(&state, BYTES(0x10, 0x08), 2, false);
     feed(&state, BYTES(SYN), 1, true);
     stays_closed(&state, NOT_JUDGED(MOOR_SYN_EARLY, 2));
     state = listen();
     feed(&state, BYTES(0x10, 0x08, 0xB5, 0x11, 0x11, 0x00), 5, true);
     stays_closed(&state, NOT_JUDGED(MOOR_LENGTH_OVER, 4));
+}
+
+/* Idle time is used and gives no answer, however it is cut. */
+static void listening_from_idle_time_on(void)
+{
+    moor_listening state = listen();
+    feed(&state, BYTES(SYN, SYN), 2, false);
+    feed(&state, BYTES(0x10, 0xA9), 2, false);
+    feed(&state, BYTES(SYN), 1, false);
+    feed(&state, BYTES(0xFF), 1, false);
+    feed(&state, BYTES(SYN, 0xA9), 2, false);
+    feed(&state, BYTES(SYN), 1, false);
+    moor_listening closed = state;
+    stays_closed(&closed, NOT_JUDGED(MOOR_RUN_ENDED, 9));
+    feed(&state, BYTES(COMMAND, ACK, REPLY, ACK, SYN, SYN), 13, true);
+    stays_closed(&state, (exchange){JUDGED(MOOR_INITIATOR_TARGET, 1, 1, 22), BYTES(COMMAND),
+                                    BYTES(REPLY), none});
+    state = listen();
+    feed(&state, BYTES(SYN, COMMAND, NACK), 9, false);
+    feed(&state, BYTES(SYN, 0x10), 1, true);
+    stays_closed(&state, NOT_JUDGED(MOOR_SYN_EARLY, 9));
 }
 
 /* A wrong check byte is judged when it is acknowledged. */
@@ -1230,12 +1272,14 @@ int main(void)
     checks_of_telegrams();
     telegrams_written();
     exchanges_accepted();
+    exchanges_behind_idle_time();
     exchanges_refused();
     listening_accepted();
     listening_refused();
     listening_within_an_escape();
     listening_to_replies();
     listening_to_wrong_starts();
+    listening_from_idle_time_on();
     listening_to_a_wrong_check();
     listening_closed();
     any_states();

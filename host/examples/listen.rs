@@ -7,11 +7,14 @@
 //! A listener hears one exchange. Behind the bytes that it used the next begins
 //! afresh: after an exchange that was accepted that is behind its SYN; after a
 //! refusal the bytes through the next SYN AA are passed over first, since no
-//! exchange begins before it. That SYN may be the refused byte itself. A SYN
-//! where an exchange would begin is idle time, and is passed over too.
+//! exchange begins before it. That SYN may be the refused byte itself.
 //!
-//! Each line names where in the dump its exchange starts; the place of a
-//! refusal counts from there.
+//! A dump may start and end in idle time, and an initiator that gave way to
+//! another leaves its address there. A listener passes over both by itself. Here
+//! each begins at a byte that is no SYN, and is dropped where a SYN is no answer:
+//! so each line names where in the dump its exchange starts, and idle time at
+//! the end is no exchange that was cut off. The place of a refusal counts from
+//! the start named.
 
 use std::io::{self, Read};
 
@@ -65,11 +68,16 @@ impl Line {
             let used = match &mut self.hearing {
                 Hearing::Idle => self.idle(run),
                 Hearing::Exchange(start, listener) => {
-                    let used = listener.feed(run);
-                    if listener.has_answered() {
-                        let accepted = print(*start, listener.close());
-                        let ended = accepted || run[used - 1] == SYN;
-                        self.hearing = if ended { Hearing::Idle } else { Hearing::Rest };
+                    let used = listener.feed(&run[..through_syn(run)]);
+                    let answered = listener.has_answered();
+                    if answered {
+                        print(*start, listener.close());
+                    }
+                    // A SYN that is no answer has found no more than a source.
+                    if run[used - 1] == SYN {
+                        self.hearing = Hearing::Idle;
+                    } else if answered {
+                        self.hearing = Hearing::Rest;
                     }
                     used
                 }
@@ -91,13 +99,11 @@ impl Line {
 
     /// Passes over bytes through the next SYN, and gives how many there were.
     fn rest(&mut self, run: &[u8]) -> usize {
-        match run.iter().position(|&byte| byte == SYN) {
-            Some(at) => {
-                self.hearing = Hearing::Idle;
-                at + 1
-            }
-            None => run.len(),
+        let passed = through_syn(run);
+        if run[passed - 1] == SYN {
+            self.hearing = Hearing::Idle;
         }
+        passed
     }
 
     /// The dump has ended, and an exchange that goes on with it.
@@ -108,8 +114,13 @@ impl Line {
     }
 }
 
-/// Prints an answer, and gives whether the exchange was accepted.
-fn print(start: usize, answer: Result<Exchange, Refusal>) -> bool {
+/// How many bytes there are through the next SYN; all where there is none.
+fn through_syn(run: &[u8]) -> usize {
+    let before = run.iter().take_while(|&&byte| byte != SYN).count();
+    run.len().min(before + 1)
+}
+
+fn print(start: usize, answer: Result<Exchange, Refusal>) {
     match answer {
         Ok(exchange) => {
             let (kind, command) = (exchange.kind(), exchange.command());
@@ -118,11 +129,7 @@ fn print(start: usize, answer: Result<Exchange, Refusal>) -> bool {
                 "{start}: {kind} {command:02X?} data {:02X?} attempts {attempts:?}",
                 exchange.data()
             );
-            true
         }
-        Err(refusal) => {
-            println!("{start}: {refusal}");
-            false
-        }
+        Err(refusal) => println!("{start}: {refusal}"),
     }
 }

@@ -68,7 +68,8 @@ extern "C" {
 #define MOOR_TABLE_NOT_VALID    2 /* the device table is not valid */
 #define MOOR_RUN_ENDED          3 /* the eBUS run ends too early; place: its length */
 #define MOOR_ESCAPE_WRONG       4 /* the byte after A9 is none of 00, 01, AA */
-#define MOOR_SYN_EARLY          5 /* raw AA where another byte was due */
+#define MOOR_SYN_EARLY          5 /* raw AA where another byte was due; a recording's
+                                     idle time is no such place, see moor_judge */
 #define MOOR_SOURCE_WRONG       6 /* SRC is no initiator address */
 #define MOOR_DESTINATION_WRONG  7 /* DST is A9 or AA */
 #define MOOR_LENGTH_OVER        8 /* LEN is over 16 */
@@ -142,7 +143,8 @@ typedef struct {
 } moor_telegram;
 
 /* A judged exchange: MOOR_BROADCAST and so on, the attempts at command and
- * reply (0 without a reply), and the raw bytes read, SYN included. */
+ * reply (0 without a reply), and the raw bytes read, idle time in front and SYN
+ * included. */
 typedef struct {
     uint8_t number;
     uint8_t kind;
@@ -319,12 +321,19 @@ moor_written moor_write_command(uint8_t source, uint8_t destination,
 moor_written moor_write_reply(const uint8_t *payload, size_t payload_length,
                               uint8_t *out, size_t out_length);
 
-/* Judges a recorded run from its start to SYN; bytes behind that are not
- * looked at. When accepted, `command` starts with the accepted command, SRC
+/* Judges a recorded run, through the SYN that ends its exchange; bytes behind
+ * that are not looked at. When accepted, `command` starts with the accepted command, SRC
  * through check byte, and `reply_1` and `reply_2` with the reply attempts that
  * happened, LEN through check byte, NACKed ones included; all other bytes
  * stay. A command attempt that was NACKed is not kept. Bytes behind the 2^31st
  * are not looked at.
+ *
+ * The run may start in idle time. While the first command has no more than
+ * SRC, a raw AA is idle time, also behind an A9: SRC and A9 are dropped, and
+ * the command is looked for behind the AA. That makes no attempt, but the bytes
+ * passed over count, in places and in `read`. Idle time alone ends with
+ * MOOR_RUN_ENDED. A wrong SRC is refused before the AA behind it is looked at.
+ * A command that comes again and a reply have no idle time before them.
  *
  * Refuses with
  *   MOOR_OUTPUT_SHORT    if `command` is under MOOR_COMMAND_ROOM bytes, or
@@ -332,7 +341,7 @@ moor_written moor_write_reply(const uint8_t *payload, size_t payload_length,
  *                        where this exchange would not use it;
  * and then the first that is met, byte by byte, of
  *   MOOR_RUN_ENDED to MOOR_LENGTH_OVER
- *                        as moor_telegram_at does;
+ *                        as moor_telegram_at does, idle time passed over;
  *   MOOR_RUN_ENDED       if an acknowledge byte or SYN is missing;
  *   MOOR_SYN_EARLY       at an AA in place of an acknowledge byte;
  *   MOOR_CHECK_WRONG     at the check byte's first raw byte, when the attempt
@@ -358,8 +367,10 @@ moor_listening moor_listen(void);
 
 /* Feeds a run of any length. It is used up to the byte that settles the
  * exchange, that byte included, and not beyond the 2^31st byte of the
- * recording; a state that has answered uses none. At the limit nothing more is
- * used though the state has not answered. Never refuses. */
+ * recording; a state that has answered uses none. Idle time before the command,
+ * as moor_judge has it, is used and settles nothing, so that a state may be
+ * made anywhere in idle time and fed from there on. At the limit nothing more is used
+ * though the state has not answered. Never refuses. */
 moor_fed moor_feed(moor_listening state, const uint8_t *run, size_t run_length);
 
 /* Whether the answer is known, so that no more bytes are used. */

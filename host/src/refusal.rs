@@ -77,7 +77,7 @@ reasons! {
         RunEnded = 3, "the run ends too early";
         /// The byte after A9 is none of 00, 01, AA.
         EscapeWrong = 4, "A9 is followed by none of 00, 01, AA";
-        /// A raw AA where another byte was due.
+        /// A raw AA where another byte was due, and no idle time before a command.
         SynEarly = 5, "SYN where another byte was due";
         /// SRC is no initiator address.
         SourceWrong = 6, "the source is no initiator address";

@@ -40,7 +40,7 @@ pub const MOOR_TABLE_NOT_VALID: u8 = 2;
 pub const MOOR_RUN_ENDED: u8 = 3;
 /// The byte after A9 is none of 00, 01, AA.
 pub const MOOR_ESCAPE_WRONG: u8 = 4;
-/// A raw AA where another byte was due.
+/// A raw AA where another byte was due, and no idle time before a command.
 pub const MOOR_SYN_EARLY: u8 = 5;
 /// SRC is no initiator address.
 pub const MOOR_SOURCE_WRONG: u8 = 6;
@@ -162,7 +162,7 @@ pub struct Judged {
     pub reply_attempts: u8,
     /// The place of the refusal.
     pub place: usize,
-    /// The raw bytes read, SYN included.
+    /// The raw bytes read, idle time in front and SYN included.
     pub read: usize,
 }
 

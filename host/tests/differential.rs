@@ -18,12 +18,18 @@ mod cuts;
 mod edges;
 #[path = "differential/families.rs"]
 mod families;
+#[path = "differential/hands.rs"]
+mod hands;
 #[path = "differential/hearing.rs"]
 mod hearing;
+#[path = "differential/idle.rs"]
+mod idle;
 #[path = "differential/inputs.rs"]
 mod inputs;
 #[path = "differential/lent.rs"]
 mod lent;
+#[path = "differential/long.rs"]
+mod long;
 #[path = "differential/random.rs"]
 mod random;
 #[path = "differential/session.rs"]
@@ -33,12 +39,14 @@ mod states;
 #[path = "differential/tables.rs"]
 mod tables;
 
+use std::collections::BTreeSet;
 use std::panic::{catch_unwind, AssertUnwindSafe};
 
 use hearing::settled;
 use lent::{Lent, MARGIN};
 use moortinker::sys;
 use random::Random;
+use second::exchange::judge;
 use session::{same, Function, Session};
 
 #[test]
@@ -46,10 +54,26 @@ fn archive_and_second_agree() {
     let mut session = Session::from_environment();
     println!("seed {:#X}", session.seed());
     edges::run_all(&mut session);
+    long::run_all(&mut session);
     families::run_all(&mut session);
     session.print();
     session.assert_all_reached();
     assert!(session.total() >= session.inputs());
+}
+
+#[test]
+fn idle_time_reaches_every_number() {
+    let mut random = Random::new(5);
+    let mut numbers = BTreeSet::new();
+    for _ in 0..20_000 {
+        let (idle, recording) = idle::recording(&mut random);
+        let judged = judge(&recording, &mut [0; 22], &mut [0; 18], &mut [0; 18]);
+        if idle > 0 {
+            numbers.insert(judged.map_or_else(|refusal| refusal.number, |_| 0));
+        }
+    }
+    let reached: Vec<u8> = numbers.into_iter().collect();
+    assert_eq!(reached, [0, 3, 4, 5, 6, 7, 8, 9, 10, 11, 12]);
 }
 
 #[test]

@@ -330,9 +330,14 @@ fn the_longest_telegrams_on_the_wire() {
 
 #[test]
 fn exchanges_refused() {
-    let cases: [(&[&[u8]], Named); 15] = [
+    let cases: [(&[&[u8]], Named); 20] = [
         (&[], (3, 0)),
+        (&[SYN, SYN], (3, 2)),
         (&[COMMAND, ACK, REPLY, ACK], (3, 12)),
+        (&[&[0xA9, 0x10], SYN], (4, 1)),
+        (&[&[0x10, 0x08], SYN], (5, 2)),
+        (&[COMMAND, NACK, SYN], (5, 8)),
+        (&[&[0x02], SYN], (6, 0)),
         (&[COMMAND, SYN], (5, 7)),
         (&[COMMAND, ACK, SYN], (5, 8)),
         (&[COMMAND, ACK, REPLY, SYN], (5, 11)),
@@ -428,6 +433,25 @@ fn an_exchange_without_a_reply() {
         assert_eq!((exchange.reply(1), exchange.reply(2)), (None, None));
         assert!(exchange.data().is_empty());
         assert_eq!(exchange.bytes_read(), run.len());
+    }
+}
+
+#[test]
+fn a_recording_that_starts_in_idle_time() {
+    let pieces: [&[u8]; 4] = [SYN, &[0xA9, 0xAA], &[0x10, 0xAA], &[0xFF, 0xA9, 0xAA]];
+    let once = ebus::judge(&EXCHANGE).unwrap();
+    for idle in pieces
+        .into_iter()
+        .chain([&pieces.concat()[..], &[0xAA; 1000]])
+    {
+        assert_eq!(refused(ebus::judge(idle)), (3, idle.len()));
+        let exchange = ebus::judge(&[idle, &EXCHANGE].concat()).unwrap();
+        assert_eq!(exchange.bytes_read(), idle.len() + EXCHANGE.len());
+        assert_eq!(exchange.command(), once.command());
+        assert_eq!(exchange.command_attempts(), 1);
+        assert_eq!(exchange.reply(1), once.reply(1));
+        let wrong = [idle, COMMAND, &[0x55]].concat();
+        assert_eq!(refused(ebus::judge(&wrong)), (12, idle.len() + 7));
     }
 }
 
@@ -678,17 +702,46 @@ fn a_reply_is_nacked_between_runs() {
 
 #[test]
 fn wrong_bytes_at_the_start_of_a_command() {
-    let cases: [(&[Used], Named); 5] = [
+    let cases: [(&[Used], Named); 9] = [
         (&[(&[0xA9], 1), (&[0x01], 1)], (6, 0)),
         (&[(&[0x02, 0xAA], 1)], (6, 0)),
+        (&[(&[0xAA, 0x10, 0xAA], 3), (&[0x02, 0xAA], 1)], (6, 3)),
+        (&[(&[0xA9], 1), (&[0x10, 0xAA], 1)], (4, 1)),
         (&[(&[0x10, 0xA9], 2), (&[0x00, 0x55], 1)], (7, 1)),
-        (&[(&[0x10, 0xA9], 2), (&[0xAA], 1)], (5, 2)),
+        (&[(&[0x10, 0x08], 2), (&[0xAA], 1)], (5, 2)),
+        (&[(&[0x10, 0x08, 0xA9], 3), (&[0xAA], 1)], (5, 3)),
+        (&[(COMMAND, 7), (NACK, 1), (&[0xAA, 0x10], 1)], (5, 8)),
         (&[(&[0x10, 0x08, 0xB5, 0x11, 0x11, 0x00], 5)], (8, 4)),
     ];
     for (runs, refusal) in cases {
         let mut listener = fed(runs);
         assert!(listener.has_answered());
         assert_eq!(refused(listener.close()), refusal, "{runs:02X?}");
+    }
+}
+
+#[test]
+fn idle_time_before_a_command_is_used_and_no_answer() {
+    let cases: [&[Used]; 5] = [
+        &[(&[0xAA], 1)],
+        &[(&[0xAA, 0xAA], 2)],
+        &[(&[0xA9], 1), (&[0xAA], 1)],
+        &[(&[0x10, 0xA9], 2), (&[0xAA], 1)],
+        &[(&[0x10], 1), (&[0xAA, 0x31, 0xAA], 3), (&[], 0)],
+    ];
+    for runs in cases {
+        let mut listener = fed(runs);
+        assert!(!listener.has_answered(), "{runs:02X?}");
+        let used = runs.iter().map(|(_, used)| used).sum();
+        assert_eq!(refused(listener.clone().close()), (3, used), "{runs:02X?}");
+        assert_eq!(listener.feed(&EXCHANGE), EXCHANGE.len());
+        let exchange = listener.close().unwrap();
+        assert_eq!(
+            (exchange.command(), exchange.data()),
+            (COMMAND, &[0x2A][..])
+        );
+        assert_eq!(exchange.command_attempts(), 1);
+        assert_eq!(exchange.bytes_read(), used + EXCHANGE.len());
     }
 }
 
@@ -812,10 +865,12 @@ fn the_last_byte_that_is_used_decides() {
 
 #[test]
 fn nothing_is_used_behind_the_last_byte() {
-    let (state, used) = feed(one_byte_left(0), &[0x10, 0x08]);
-    assert_eq!((used, has_answered(state)), (1, false));
-    assert_eq!(feed(state, &[0x08]), (state, 0));
-    assert_eq!(close(state), refusal(3, MOST_USED));
+    for run in [[0x10, 0x08], [0xAA, 0xAA]] {
+        let (state, used) = feed(one_byte_left(0), &run);
+        assert_eq!((used, has_answered(state)), (1, false));
+        assert_eq!(feed(state, &run), (state, 0));
+        assert_eq!(close(state), refusal(3, MOST_USED));
+    }
 
     let state = sys::Listening {
         start: usize::MAX,
@@ -842,14 +897,41 @@ fn at_most_46_bytes_are_in_hand() {
     assert_eq!(close(state), accepted);
 }
 
+/// A fresh state, but with these bytes in hand.
+fn holding(hand: &[u8]) -> sys::Listening {
+    let held = hand.len() as u8;
+    let mut state = sys::Listening { held, ..fresh() };
+    state.raw[..hand.len()].copy_from_slice(hand);
+    state
+}
+
 #[test]
-fn a_wrong_source_in_hand_is_refused_by_the_next_byte() {
-    let mut state = sys::Listening { held: 1, ..fresh() };
-    state.raw[0] = 0x02;
-    assert_eq!(close(state), refusal(3, 1));
-    let (state, used) = feed(state, &[0x55]);
-    assert_eq!((used, state.start), (1, 2));
-    assert_eq!(close(state), refusal(6, 0));
+fn a_wrong_byte_in_hand_is_refused_by_the_next_byte() {
+    let cases: [(&[u8], Named); 4] = [
+        (&[0x02], (6, 0)),
+        (&[0xAA], (5, 0)),
+        (&[0xA9, 0xAA], (5, 1)),
+        (&[0x10, 0xAA], (5, 1)),
+    ];
+    for (hand, (number, place)) in cases {
+        let state = holding(hand);
+        assert_eq!(close(state), refusal(3, hand.len()));
+        for byte in [0x55, 0xAA] {
+            let (state, used) = feed(state, &[byte]);
+            assert_eq!((used, state.start), (1, hand.len() + 1));
+            assert_eq!(close(state), refusal(number, place));
+        }
+    }
+}
+
+#[test]
+fn syn_throws_away_what_is_in_hand() {
+    for hand in [&[][..], &[0xA9], &[0x10], &[0x10, 0xA9]] {
+        let (state, used) = feed(holding(hand), &[0xAA, 0x10]);
+        assert_eq!((used, has_answered(state)), (2, false));
+        assert_eq!((state.start, state.held), (hand.len() + 1, 1));
+        assert_eq!(close(state), refusal(3, hand.len() + 2));
+    }
 }
 
 // ---- Fast Modbus: frames ----------------------------------------------------

@@ -16,7 +16,7 @@ use Rattle.refusal.specs.Number.{outputShort, runEnded, at-place}
 use Rattle.addresses.specs.Address.{kindOf}
 use Rattle.telegram.specs.Telegram.{destinationOf}
 use Rattle.attempts.proofs.Sized.{attempt-none}
-use Rattle.exchange.specs.Exchange.{limit, triesAt, Outcome, accepted, rejected, exchangeAt, exchange, rooms, judged}
+use Rattle.exchange.specs.Exchange.{limit, Outcome, accepted, rejected, exchange, rooms, judged}
 use Rattle.listening.specs.declared.Listening.{Listening}
 use Rattle.listening.specs.declared.Fed.{Fed}
 use Rattle.listening.specs.Listening.{fresh, heard, hasAnswered, answers, hear, after, listened, fed, keptCommand, keptFirst, keptSecond, answer, closed, closing, closingState}
@@ -57,9 +57,9 @@ run-on (b ∷ bs) p s st =
         each (suc m) k = subst (λ (x : List ℕ). Open (exchange x)) (append-assoc p (b ∷ []) (take m bs)) (r .before m (omega arith))
 
 fresh-stage : Stage [] fresh
-unfolding exchangeAt triesAt
 fresh-stage =
-    first-command refl (record { before = []; split = refl; begins = refl; room = refl }) (attempt-none true) (record { first = refl; second = refl; attempts = refl }) (λ more. refl)
+    first-command refl (record { before = []; split = refl; begins = refl; room = refl }) (attempt-none true) (record { first = refl; second = refl; attempts = refl })
+    (λ more. omega arith)
 
 -- ---- at the end
 

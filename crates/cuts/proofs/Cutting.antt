@@ -17,7 +17,7 @@ use Rattle.attempts.specs.Attempt.{Attempt, taken, nacked, failed, attemptAt}
 use Rattle.exchange.specs.Exchange.{limit}
 use Rattle.listening.specs.declared.Listening.{Listening}
 use Rattle.listening.specs.declared.Fed.{Fed}
-use Rattle.listening.specs.Listening.{firstCommand, firstReply, synDue, inHand, heard, hasAnswered, isCommand, onTaken, onNacked, onAttempt, hear, after, listened, fed}
+use Rattle.listening.specs.Listening.{firstCommand, firstReply, synDue, inHand, heard, hasAnswered, isCommand, onTaken, onNacked, onAttempt, restarts, hear, after, listened, fed}
 use Rattle.listening.proofs.Undecided.{in-hand-now}
 use Rattle.cuts.specs.Cuts.{joined, fedAll, AnyTwoCuts, AnsweredStays}
 
@@ -50,8 +50,11 @@ module _ (s : Listening) where
   hear-more b =
       let c = inHand s ++ b ∷ [] in
       let P : Listening → Type 0 = λ t. heardOf t ≡ heardOf s + 1 in
-      pick-cases P (ltb (s .due) synDue) _ _ (λ _. omega (arith, attempt-more c (attemptAt (isCommand s) c 0), length-append (inHand s) (b ∷ [])))
-      (λ _. pick-cases P (eqb b syn) _ _ (λ _. omega arith) (λ _. omega arith))
+      let one = length-append (inHand s) (b ∷ []) in
+      pick-cases P (restarts s c) _ _ (λ _. omega (arith, one))
+      (λ _.
+      pick-cases P (ltb (s .due) synDue) _ _ (λ _. omega (arith, attempt-more c (attemptAt (isCommand s) c 0), one))
+      (λ _. pick-cases P (eqb b syn) _ _ (λ _. omega arith) (λ _. omega arith)))
 
 -- ---- bytes one after the other
 

@@ -22,6 +22,7 @@ use Rattle.addresses.specs.declared.ExchangeKind.{ExchangeKind}
 use Rattle.addresses.specs.declared.ExchangeKind.the-variants.{Broadcast, InitiatorInitiator, InitiatorTarget}
 use Rattle.addresses.specs.Address.{kindOf}
 use Rattle.telegram.specs.Telegram.{commandRoom, replyRoom, destinationOf}
+use Rattle.beginning.specs.Beginning.{commandStart}
 use Rattle.attempts.specs.Attempt.{Attempt, taken, nacked, failed, attemptAt}
 use Rattle.attempts.specs.Looks.{lookedAt}
 use Rattle.attempts.proofs.LongerRun.{OtherAttempt, attempt-stays}
@@ -51,6 +52,10 @@ Undecided command s = attemptAt command (inHand s) 0 ≡ failed (runOver (inHand
 abbrev pub Is : List ℕ → (List ℕ → Outcome) → Type 0
 Is p said = (more : List ℕ) → exchange (p ++ more) ≡ said (p ++ more)
 
+-- whatever follows, the command starts where what is in hand and that would have it
+abbrev pub Starts : List ℕ → Listening → Type 0
+Starts p s = (more : List ℕ) → commandStart (p ++ more) ≡ s .start + commandStart (inHand s ++ more)
+
 pub record NoReply (s : Listening) : Type 0 where
   pub first : s .«reply_1_length» ≡ 0
   pub second : s .«reply_2_length» ≡ 0
@@ -76,7 +81,7 @@ abbrev pub byEnd : Listening → End → Outcome
 byEnd s x = onEnd (keptKind s) (s .«command_attempts») (s .«reply_attempts») (keptCommand s) (keptFirst s) (keptSecond s) x
 
 pub data Stage (p : List ℕ) (s : Listening) : Type 0 where
-  first-command : s .due ≡ 0 → Heard p s → Undecided true s → NoReply s → Is p (λ r. byFirstCommand r (attemptAt true r (s .start))) → Stage p s
+  first-command : s .due ≡ 0 → Heard p s → Undecided true s → NoReply s → Starts p s → Stage p s
   second-command : s .due ≡ 1 → Heard p s → Undecided true s → NoReply s → (first : List ℕ) → Is p (λ r. bySecondCommand first r (attemptAt true r (s .start))) → Stage p s
   first-reply : s .due ≡ 2 → Heard p s → Undecided false s → NoReply s → keptKind s ≡ InitiatorTarget → Is p (λ r. byFirstReply s r (attemptAt false r (s .start))) → Stage p s
   second-reply : s .due ≡ 3 → Heard p s → Undecided false s → keptKind s ≡ InitiatorTarget → Is p (λ r. bySecondReply s r (attemptAt false r (s .start))) → Stage p s
@@ -160,11 +165,14 @@ module _ (p : List ℕ) (s : Listening) (h : Heard p s) (b : ℕ) where
         ∙ ap (λ (k : ℕ). laterAttempt k (attemptAt command (c ++ more) 0)) (h .begins)
         ∙ ap (laterAttempt (s .start)) stays
 
+    pub settled-now : (by : List ℕ → Attempt → Outcome) → Is p₁ (λ r. by r (attemptAt command r (s .start)))
+        → (a : Attempt) → attemptAt command c 0 ≡ a → OtherAttempt a → Is p₁ (λ r. by r (laterAttempt (s .start) a))
+    settled-now by is a e other more =
+        is more ∙ ap (by (p₁ ++ more)) (there (subst OtherAttempt (sym e) other) more ∙ ap (laterAttempt (s .start)) e)
+
     pub settled : (by : List ℕ → Attempt → Outcome) → Is p (λ r. by r (attemptAt command r (s .start)))
         → (a : Attempt) → attemptAt command c 0 ≡ a → OtherAttempt a → Is p₁ (λ r. by r (laterAttempt (s .start) a))
-    settled by is a e other more =
-        moved (λ r. by r (attemptAt command r (s .start))) is more
-        ∙ ap (by (p₁ ++ more)) (there (subst OtherAttempt (sym e) other) more ∙ ap (laterAttempt (s .start)) e)
+    settled by is a e other = settled-now by (moved (λ r. by r (attemptAt command r (s .start))) is) a e other
 
     -- it ends with this byte, and its telegram has its size
     pub decided-as : (a : Attempt) → attemptAt command c 0 ≡ a → OtherAttempt a → LookedAs (length c) a × AttemptSized command a

@@ -3,14 +3,14 @@
 use mathlib.Core.Path.{_≡_, refl, sym, ap, _∙_, subst}
 use mathlib.Core.Bool.{Bool, true, false}
 use mathlib.Core.List.{List, [], _∷_, _++_, append-assoc, append-nil}
-use Prim.Native.Nat.{ℕ, _+_}
+use Prim.Native.Nat.{ℕ, _+_, _<_}
 use native.Mathlib.Omega.{arith}
 use lib.Dec.{eqb}
 use lib.ListN.{length, getD, length-append}
 use lib.Seq.{getD-append-seam}
 use borrow.Author.Tests.{lt-ltb, le-ltb}
 use Rattle.lists.specs.Choice.{pick}
-use Rattle.lists.proofs.Cases.{pick-cases, true-not-false}
+use Rattle.lists.proofs.Cases.{by-test, pick-cases, true-not-false}
 use Rattle.refusal.specs.Number.{runEnded, busError, commandNacked, replyNacked, at-place}
 use Rattle.refusal.specs.declared.Refusal.{Refusal}
 use Rattle.escapes.specs.Escape.{syn}
@@ -19,13 +19,18 @@ use Rattle.escapes.proofs.Shifted.{laterRefusal, later-over}
 use Rattle.addresses.specs.declared.ExchangeKind.the-variants.{InitiatorTarget}
 use Rattle.telegram.specs.Telegram.{destinationOf}
 use Rattle.addresses.specs.Address.{kindOf}
+use Rattle.beginning.specs.Beginning.{piece, commandStart}
+use Rattle.beginning.proofs.Begun.{start-none, start-behind}
 use Rattle.attempts.specs.Attempt.{Attempt, taken, nacked, failed, attemptAt}
+use Rattle.attempts.proofs.LongerRun.{OtherAttempt}
 use Rattle.attempts.proofs.Shifted.{laterAttempt, later-attempt}
 use Rattle.attempts.proofs.Sized.{attempt-none}
-use Rattle.exchange.specs.Exchange.{onSecond, End, ended, open-still, synAt, Outcome, rejected, onEnd, onReply, onKind, exchange}
+use Rattle.exchange.specs.Exchange.{onSecond, triesAt, End, ended, open-still, synAt, Outcome, rejected, onEnd, onReply, onKind, exchangeAt, exchange}
 use Rattle.listening.specs.declared.Listening.{Listening}
-use Rattle.listening.specs.Listening.{inHand, hasAnswered, goesOn, refuses, answers, onTaken, onNacked, hear, keptCommand, keptFirst, answer}
-use Rattle.cuts.proofs.Stages.{Heard, Undecided, Is, NoReply, keptKind, byFirstCommand, bySecondCommand, byFirstReply, bySecondReply, byEnd, Stage, first-command, second-command, first-reply, second-reply, syn-due, known, dued, numberOf, moved, anew, laid, laid-open, settled, decided-as, refused, command-kept, first-taken, first-nacked, second-taken, by-attempt}
+use Rattle.listening.specs.Listening.{inHand, hasAnswered, goesOn, refuses, answers, onTaken, onNacked, onAttempt, restarts, hear, keptCommand, keptFirst, answer}
+use Rattle.listening.proofs.Undecided.{in-hand-now}
+use Rattle.listening.proofs.Restart.{hear-anew, hear-on, restarts-of, restarts-due, no-piece-yet, started}
+use Rattle.cuts.proofs.Stages.{Heard, Undecided, Is, Starts, NoReply, keptKind, byFirstCommand, bySecondCommand, byFirstReply, bySecondReply, byEnd, Stage, first-command, second-command, first-reply, second-reply, syn-due, known, dued, numberOf, moved, anew, laid, laid-open, settled-now, settled, decided-as, refused, command-kept, first-taken, first-nacked, second-taken, by-attempt}
 
 -- the same with something else due
 heard-too : (p : List ℕ) (s : Listening) (d : ℕ) → Heard p s → Heard p (dued s d)
@@ -46,27 +51,62 @@ module _ (p : List ℕ) (s : Listening) (h : Heard p s) (b : ℕ) where
   abbrev p₁ : List ℕ
   p₁ = p ++ b ∷ []
 
-  on-first-command : Undecided true s → NoReply s → Is p (λ r. byFirstCommand r (attemptAt true r (s .start))) → Stage p₁ (hear (dued s 0) b)
-  unfolding hear onTaken onNacked
-  on-first-command undecided none is =
+  -- ---- the first command
+
+  pub starts-behind : Starts p s → (more : List ℕ) → commandStart (p₁ ++ more) ≡ s .start + commandStart (c ++ more)
+  starts-behind starts more =
+      ap commandStart (append-assoc p (b ∷ []) more) ∙ starts (b ∷ more) ∙ ap (λ (r : List ℕ). s .start + commandStart r) (sym (append-assoc (inHand s) (b ∷ []) more))
+
+  -- what is in hand is thrown away
+  first-anew : NoReply s → Starts p s → piece c ≡ length c → Stage p₁ (goesOn (dued s 0) (s .start + length c) 0)
+  first-anew none starts is =
+      let s₀ = dued s 0 in
+      let some : 0 < length c = omega (arith, length-append (inHand s) (b ∷ [])) in
+      first-command refl (anew p s₀ (heard-too p s 0 h) b (goesOn s₀ (s .start + length c) 0) refl refl (h .room)) (attempt-none true)
+      (record { first = none .first; second = none .second; attempts = none .attempts })
+      (λ more. omega (arith, starts-behind starts more, start-behind c more some is))
+
+  -- the command has started where what was in hand starts
+  first-started : Starts p s → ((more : List ℕ) → piece (c ++ more) ≡ 0) → Is p₁ (λ r. byFirstCommand r (attemptAt true r (s .start)))
+  unfolding exchangeAt triesAt
+  first-started starts never more =
+      let at : commandStart (p₁ ++ more) ≡ s .start = omega (arith, starts-behind starts more, start-none (c ++ more) (never more)) in
+      ap (λ (n : ℕ). byFirstCommand (p₁ ++ more) (attemptAt true (p₁ ++ more) n)) at
+
+  first-on : Undecided true s → NoReply s → Starts p s → (piece c ≡ length c → ⊥) → Stage p₁ (onAttempt (dued s 0) c (attemptAt true c 0))
+  unfolding onTaken onNacked
+  first-on undecided none starts no-piece =
       let s₀ = dued s 0 in
       let h₀ = heard-too p s 0 h in
+      let is : OtherAttempt (attemptAt true c 0) → Is p₁ (λ r. byFirstCommand r (attemptAt true r (s .start))) =
+      λ other. first-started starts (started (inHand s) b undecided other no-piece) in
       by-attempt p s₀ h₀ b true s₀
       (λ t next e.
       let d = decided-as p s₀ h₀ b true undecided (taken t next) e tt in
       command-kept p s₀ h₀ b 1 t (d .1) (no-reply-too s 0 none)
-      (subst (λ (n : ℕ). Is p₁ (λ r. onKind 1 t r (s .start + n) (kindOf (destinationOf t)))) (d .0) (settled p s₀ h₀ b true undecided byFirstCommand is (taken t next) e tt)))
+      (subst (λ (n : ℕ). Is p₁ (λ r. onKind 1 t r (s .start + n) (kindOf (destinationOf t)))) (d .0)
+      (settled-now p s₀ h₀ b true undecided byFirstCommand (is (subst OtherAttempt (sym e) tt)) (taken t next) e tt)))
       (λ t place e.
       let d = decided-as p s₀ h₀ b true undecided (nacked t place) e tt in
       let at : s .start + place + 1 ≡ s .start + length c = omega (arith, d .0) in
       let then = goesOn s₀ (s .start + length c) 1 in
       second-command refl (anew p s₀ h₀ b then refl refl (h .room)) (attempt-none true) (record { first = none .first; second = none .second; attempts = none .attempts }) t
-      (subst (λ (n : ℕ). Is p₁ (λ r. bySecondCommand t r (attemptAt true r n))) at (settled p s₀ h₀ b true undecided byFirstCommand is (nacked t place) e tt)))
-      (λ why e other. refused p s₀ h₀ b why (decided-as p s₀ h₀ b true undecided (failed why) e other .0) other (settled p s₀ h₀ b true undecided byFirstCommand is (failed why) e other))
+      (subst (λ (n : ℕ). Is p₁ (λ r. bySecondCommand t r (attemptAt true r n))) at
+      (settled-now p s₀ h₀ b true undecided byFirstCommand (is (subst OtherAttempt (sym e) tt)) (nacked t place) e tt)))
+      (λ why e other.
+      refused p s₀ h₀ b why (decided-as p s₀ h₀ b true undecided (failed why) e other .0) other
+      (settled-now p s₀ h₀ b true undecided byFirstCommand (is (subst OtherAttempt (sym e) other)) (failed why) e other))
       (λ e.
       first-command refl (laid p s₀ h₀ b) (laid-open p s₀ h₀ b true e) (record { first = none .first; second = none .second; attempts = none .attempts })
-      (moved p s₀ h₀ b (λ r. byFirstCommand r (attemptAt true r (s .start))) is))
+      (λ more. starts-behind starts more ∙ ap (λ (x : List ℕ). s .start + commandStart (x ++ more)) (sym (in-hand-now s₀ c))))
       (attemptAt true c 0) refl
+
+  on-first-command : Undecided true s → NoReply s → Starts p s → Stage p₁ (hear (dued s 0) b)
+  on-first-command undecided none starts =
+      let s₀ = dued s 0 in
+      by-test (restarts s₀ c)
+      (λ y. subst (Stage p₁) (sym (hear-anew s₀ b y)) (first-anew none starts (restarts-due s₀ c y .1)))
+      (λ y. subst (Stage p₁) (sym (hear-on s₀ b y)) (first-on undecided none starts (λ e. true-not-false (restarts-of s₀ c refl e) y)))
 
   on-second-command : Undecided true s → NoReply s → (first : List ℕ) → Is p (λ r. bySecondCommand first r (attemptAt true r (s .start))) → Stage p₁ (hear (dued s 1) b)
   unfolding hear onTaken onNacked
@@ -203,8 +243,18 @@ syn-open p s h empty =
     let whole : length p ≡ s .start = ap length (h .split ∙ ap (λ (x : List ℕ). h .before ++ x) empty ∙ append-nil (h .before)) ∙ h .begins in
     ap (λ (t : Bool). pick t (pick (eqb (getD p (s .start) 0) syn) (ended (s .start + 1)) (open-still (at-place busError (s .start)))) (open-still (runOver p))) (le-ltb (s .start) (length p) (omega (arith, whole)))
 
+-- nothing in hand was thrown away
+first-open : (p : List ℕ) (s : Listening) → Heard p s → Undecided true s → Starts p s → exchange p ≡ rejected (runOver p)
+unfolding exchangeAt triesAt
+first-open p s h undecided starts =
+    let hand = inHand s in
+    let same : commandStart p ≡ commandStart (p ++ []) = ap commandStart (sym (append-nil p)) in
+    let none : commandStart (hand ++ []) ≡ 0 = ap commandStart (append-nil hand) ∙ start-none hand (no-piece-yet hand undecided) in
+    let at : commandStart p ≡ s .start = omega (arith, same, starts [], none) in
+    ap (λ (n : ℕ). byFirstCommand p (attemptAt true p n)) at ∙ ap (byFirstCommand p) (attempt-open p s h true undecided)
+
 pub open-exchange : (p : List ℕ) (s : Listening) → Stage p s → hasAnswered s ≡ false → exchange p ≡ rejected (runOver p)
-open-exchange p s (first-command e h undecided none is) o = by-open p s byFirstCommand true h undecided is (λ r why. refl)
+open-exchange p s (first-command e h undecided none starts) o = first-open p s h undecided starts
 open-exchange p s (second-command e h undecided none first is) o = by-open p s (bySecondCommand first) true h undecided is (λ r why. refl)
 open-exchange p s (first-reply e h undecided none target is) o = by-open p s (byFirstReply s) false h undecided is (λ r why. refl)
 open-exchange p s (second-reply e h undecided target is) o = by-open p s (bySecondReply s) false h undecided is (λ r why. refl)

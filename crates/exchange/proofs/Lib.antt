@@ -5,3 +5,4 @@ pub mod FromRun
 pub mod OutcomeBySyn
 pub mod Buffers
 pub mod Worked
+pub mod Restarting

@@ -1,5 +1,5 @@
--- Judging a run, rules E12 to E16, from its attempts on (attempts/specs/Attempt.antt). Every position is absolute, so places are positions and the bytes read are the last
--- position. What did not happen, and every refusal, has no bytes.
+-- Judging a run, rules E12 to E16, E20 and E21, from its attempts on (attempts/specs/Attempt.antt). Every position is absolute, so
+-- places are positions and the bytes read are the last position. What did not happen, and every refusal, has no bytes.
 -- Assumes nothing.
 use Prim.Native.Nat.{ℕ, _+_}
 use mathlib.Core.Bool.{Bool, true, false, _&&_}
@@ -15,6 +15,7 @@ use Rattle.addresses.specs.declared.ExchangeKind.{ExchangeKind}
 use Rattle.addresses.specs.declared.ExchangeKind.the-variants.{Broadcast, InitiatorInitiator, InitiatorTarget}
 use Rattle.addresses.specs.Address.{kindOf}
 use Rattle.telegram.specs.Telegram.{commandRoom, replyRoom, destinationOf}
+use Rattle.beginning.specs.Beginning.{commandStart}
 use Rattle.attempts.specs.Attempt.{Attempt, taken, nacked, failed, attemptAt}
 
 -- ---- one attempt or two
@@ -86,9 +87,9 @@ onCommand run (neither why) = rejected why
 unfoldable pub exchangeAt : List ℕ → ℕ → Outcome
 exchangeAt run at = onCommand run (triesAt true run at)
 
--- judging starts at the start of the run
+-- rule E21: the command starts behind all that a SYN threw away
 abbrev pub exchange : List ℕ → Outcome
-exchange run = exchangeAt run 0
+exchange run = exchangeAt run (commandStart run)
 
 -- rule E16: whether buffers of these lengths are enough
 unfoldable pub rooms : ℕ → ℕ → ℕ → Bool

@@ -1,4 +1,4 @@
-// The judge: a recorded exchange is accepted exactly when the rules accept it (E12 to E16, and E20).
+// The judge: a recorded exchange is accepted exactly when the rules accept it (E12 to E16, E20 and E21).
 //
 // The run is read twice: first to judge it, with nothing stored, and once it is accepted to put the
 // telegrams' bytes into the three buffers. So a refusal leaves them as they were.
@@ -7,6 +7,7 @@ use crate::tries::tries_at;
 use crate::wire::copy_logical;
 use addresses::ExchangeKind;
 use addresses::kind;
+use beginning::command_start;
 use checkbyte::ebus_tables;
 use escapes::SYN;
 use refusal::BUS_ERROR;
@@ -226,8 +227,8 @@ fn read_of(n: usize) -> usize
     LIMIT
 }
 
-// Judges a recorded run from its start: accepted with kind, attempts and raw bytes read, or refused
-// with its number and place. The buffers hold at least 22, 18 and 18 bytes, else number 1.
+// Judges a recorded run, whose command starts behind what a SYN threw away, if any did: accepted with
+// kind, attempts and raw bytes read, or refused with its number and place. The buffers hold at least 22, 18 and 18 bytes, else number 1.
 // At most 2^31 bytes are read, as if the run ended there. On success the command buffer starts with
 // the accepted command, the reply buffers with the attempts that happened, and all other bytes stay;
 // on a refusal all three keep their bytes.
@@ -238,5 +239,6 @@ pub fn judge(run: &[u8], command: &mut [u8], reply_1: &mut [u8], reply_2: &mut [
         return too_short();
     }
     let n = read_of(run.len());
-    judge_at(&run[..n], 0, command, reply_1, reply_2)
+    let read = &run[..n];
+    judge_at(read, command_start(read), command, reply_1, reply_2)
 }

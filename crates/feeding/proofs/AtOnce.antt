@@ -13,16 +13,27 @@ use borrow.Author.Tests.{ltb-true, lt-leb, ne-eqb}
 use Rattle.lists.specs.Choice.{pick}
 use Rattle.refusal.specs.Number.{runEnded}
 use Rattle.escapes.specs.Logical.{runOver}
+use Rattle.beginning.specs.Beginning.{piece}
+use Rattle.beginning.proofs.Pieces.{shorter-most}
 use Rattle.attempts.specs.Attempt.{Attempt, taken, nacked, failed, attemptAt}
 use Rattle.attempts.specs.Looks.{lookedAt}
 use Rattle.attempts.proofs.LongerRun.{OtherAttempt, attempt-stays}
 use Rattle.listening.specs.declared.Listening.{Listening}
 use Rattle.listening.specs.declared.Fed.{Fed}
-use Rattle.listening.specs.Listening.{synDue, inHand, hasAnswered, inHandNow, refuses, isCommand, onTaken, onNacked, onAttempt, onSyn, hear, after, listened}
+use Rattle.listening.specs.Listening.{firstCommand, synDue, inHand, hasAnswered, inHandNow, goesOn, refuses, isCommand, onTaken, onNacked, onAttempt, onSyn, restarts, hear, after, listened}
 use Rattle.listening.proofs.Undecided.{in-hand-now, ended-looks, near}
+use Rattle.listening.proofs.Restart.{restarts-not}
 use Rattle.feeding.specs.Inner.{stepBy, stepOn}
 
 -- ---- a byte, of a state that has not answered
+
+-- what an attempt's bytes make of a state
+abbrev pub heardWith : Listening → List ℕ → Listening
+heardWith s c = pick (restarts s c) (goesOn s (s .start + length c) firstCommand) (onAttempt s c (attemptAt (isCommand s) c 0))
+
+-- no SYN among these bytes throws away those in hand
+abbrev pub NoRestart : Listening → List ℕ → List ℕ → Type 0
+NoRestart s hand run = s .due ≡ firstCommand → piece (hand ++ run) ≤ length hand
 
 module _ (s : Listening) (tries : ltb (s .due) synDue ≡ true) where
   not-answered : hasAnswered s ≡ false
@@ -33,9 +44,11 @@ module _ (s : Listening) (tries : ltb (s .due) synDue ≡ true) where
   unfolding listened
   first-byte b rest = ap (λ (t : Bool). pick t (record { state = s; used = 0 }) (after 1 (listened (hear s b) rest))) not-answered
 
-  pub hears : (b : ℕ) → hear s b ≡ onAttempt s (inHand s ++ b ∷ []) (attemptAt (isCommand s) (inHand s ++ b ∷ []) 0)
+  pub hears : (b : ℕ) → hear s b ≡ heardWith s (inHand s ++ b ∷ [])
   unfolding hear
-  hears b = let c = inHand s ++ b ∷ [] in ap (λ (t : Bool). pick t (onAttempt s c (attemptAt (isCommand s) c 0)) (onSyn s b)) tries
+  hears b =
+      let c = inHand s ++ b ∷ [] in
+      ap (λ (t : Bool). pick (restarts s c) (goesOn s (s .start + length c) firstCommand) (pick t (onAttempt s c (attemptAt (isCommand s) c 0)) (onSyn s b))) tries
 
 -- what is in hand does not matter for what an attempt makes of a state
 pub same-step : (s : Listening) (hand c : List ℕ) (n : ℕ) (a : Attempt) → stepBy (inHandNow s hand) c n a ≡ stepBy s c n a
@@ -81,12 +94,18 @@ comes-later s s₁ f hand c b b′ r rest first one all on =
           ∙ ap (λ (i : ℕ). after i (listened (f .state) (drop i (b ∷ b′ ∷ r) ++ rest))) more;
     }
 
-module _ (s : Listening) (tries : ltb (s .due) synDue ≡ true) (hand : List ℕ) (is : inHand s ≡ hand) (b : ℕ) where
+module _ (s : Listening) (tries : ltb (s .due) synDue ≡ true) (hand : List ℕ) (is : inHand s ≡ hand) (b : ℕ) (no-restart : NoRestart s hand (b ∷ [])) where
   one-more : length (hand ++ b ∷ []) ≡ length hand + 1
   one-more = length-append hand (b ∷ [])
 
   heard-one : hear s b ≡ onAttempt s (hand ++ b ∷ []) (attemptAt (isCommand s) (hand ++ b ∷ []) 0)
-  heard-one = hears s tries b ∙ ap (λ (h : List ℕ). onAttempt s (h ++ b ∷ []) (attemptAt (isCommand s) (h ++ b ∷ []) 0)) is
+  heard-one =
+      let c = hand ++ b ∷ [] in
+      let on = onAttempt s c (attemptAt (isCommand s) c 0) in
+      hears s tries b
+      ∙ ap (λ (h : List ℕ). heardWith s (h ++ b ∷ [])) is
+      ∙ ap (λ (t : Bool). pick t (goesOn s (s .start + length c) firstCommand) on)
+      (restarts-not s c (λ first whole. let f : ⊥ = omega (arith, no-restart first, whole, one-more) in f))
 
   -- the byte decides
   decided : (r rest : List ℕ) → attemptAt (isCommand s) (hand ++ b ∷ r) 0 ≡ attemptAt (isCommand s) (hand ++ b ∷ []) 0
@@ -151,21 +170,26 @@ module _ (s : Listening) (tries : ltb (s .due) synDue ≡ true) (hand : List ℕ
       comes-later s s₁ f hand c₁ b b′ r rest first one-more (ap length all) (subst (λ (g : Fed). Comes s₁ g c₁ (b′ ∷ r) rest) step then)
 
 -- "an attempt on all the bytes that are there makes of a state what they make of it one after the other"
-pub at-once : (r : List ℕ) (s : Listening) (tries : ltb (s .due) synDue ≡ true) (hand : List ℕ) (is : inHand s ≡ hand) (b : ℕ) (rest : List ℕ)
+pub at-once : (r : List ℕ) (s : Listening) (tries : ltb (s .due) synDue ≡ true) (hand : List ℕ) (is : inHand s ≡ hand) (b : ℕ) (rest : List ℕ) → NoRestart s hand (b ∷ r)
     → Comes s (stepOn s (hand ++ b ∷ r) (length hand + 1)) hand (b ∷ r) rest
-at-once [] s tries hand is b rest =
+at-once [] s tries hand is b rest no-restart =
     let command = isCommand s in
     let c = hand ++ b ∷ [] in
-    ⊎-elim (λ (h : attemptAt command c 0 ≡ failed (runOver c)). last-one s tries hand is b rest h)
+    ⊎-elim (λ (h : attemptAt command c 0 ≡ failed (runOver c)). last-one s tries hand is b no-restart rest h)
     (λ (h : (attemptAt command (c ++ []) 0 ≡ attemptAt command c 0) × OtherAttempt (attemptAt command c 0)).
-    decided s tries hand is b [] rest refl (h .1) (subst (λ (x : List ℕ). lookedAt command x 0 ≤ length c) (append-nil c) (near command c [] (h .1))))
+    decided s tries hand is b no-restart [] rest refl (h .1) (subst (λ (x : List ℕ). lookedAt command x 0 ≤ length c) (append-nil c) (near command c [] (h .1))))
     (attempt-stays c [] command 0)
-at-once (b′ ∷ r) s tries hand is b rest =
+at-once (b′ ∷ r) s tries hand is b rest no-restart =
     let command = isCommand s in
     let c = hand ++ b ∷ [] in
     let all : c ++ b′ ∷ r ≡ hand ++ b ∷ b′ ∷ r = append-assoc hand (b ∷ []) (b′ ∷ r) in
-    ⊎-elim (λ (h : attemptAt command c 0 ≡ failed (runOver c)). one-by-one s tries hand is b b′ r rest h (at-once r (inHandNow s c) tries c (in-hand-now s c) b′ rest))
+    let whole : s .due ≡ firstCommand → piece (c ++ b′ ∷ r) ≤ length hand = λ first. subst (λ (l : List ℕ). piece l ≤ length hand) (sym all) (no-restart first) in
+    let first-one : NoRestart s hand (b ∷ []) = λ first. shorter-most c (b′ ∷ r) (length hand) (whole first) in
+    let then-on : NoRestart (inHandNow s c) c (b′ ∷ r) = λ first. omega (arith, whole first, length-append hand (b ∷ [])) in
+    ⊎-elim
+    (λ (h : attemptAt command c 0 ≡ failed (runOver c)).
+    one-by-one s tries hand is b first-one b′ r rest h (at-once r (inHandNow s c) tries c (in-hand-now s c) b′ rest then-on))
     (λ (h : (attemptAt command (c ++ b′ ∷ r) 0 ≡ attemptAt command c 0) × OtherAttempt (attemptAt command c 0)).
-    decided s tries hand is b (b′ ∷ r) rest (ap (λ (x : List ℕ). attemptAt command x 0) (sym all) ∙ h .0) (h .1)
+    decided s tries hand is b first-one (b′ ∷ r) rest (ap (λ (x : List ℕ). attemptAt command x 0) (sym all) ∙ h .0) (h .1)
     (subst (λ (x : List ℕ). lookedAt command x 0 ≤ length c) all (near command c (b′ ∷ r) (h .1))))
     (attempt-stays c (b′ ∷ r) command 0)

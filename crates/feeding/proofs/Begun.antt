@@ -15,9 +15,9 @@ use Rattle.refusal.specs.Number.{busError}
 use Rattle.escapes.specs.Escape.{syn}
 use Rattle.attempts.specs.Attempt.{Attempt, taken, nacked, failed, attemptAt}
 use Rattle.listening.specs.declared.Listening.{Listening}
-use Rattle.listening.specs.Listening.{synDue, nothingDue, handRoom, inHand, inHandNow, goesOn, isCommand, answers, onTaken, onNacked, onAttempt, onSyn, hear, after, listened}
+use Rattle.listening.specs.Listening.{firstCommand, synDue, nothingDue, handRoom, inHand, inHandNow, goesOn, isCommand, answers, onTaken, onNacked, onAttempt, onSyn, restarts, hear, after, listened}
 use Rattle.listening.proofs.Undecided.{in-hand-now, hand-is, hand-size}
-use Rattle.feeding.proofs.AtOnce.{first-byte, hears}
+use Rattle.feeding.proofs.AtOnce.{first-byte, heardWith, hears}
 use Rattle.feeding.proofs.Turning as turning
 
 -- ---- an attempt is due
@@ -34,11 +34,11 @@ same-in-hand s due hand is [] some = let f : ⊥ = omega arith in absurd f
 same-in-hand s due hand is (b ∷ bs) some =
     let tries = lt-ltb (s .due) synDue due in
     let s₁ = inHandNow s hand in
-    let on : (h : List ℕ) → Listening = λ h. onAttempt s (h ++ b ∷ []) (attemptAt (isCommand s) (h ++ b ∷ []) 0) in
+    let c = inHand s₁ ++ b ∷ [] in
     let same : hear s₁ b ≡ hear s b =
     hears s₁ tries b
-    ∙ same-attempt s hand (inHand s₁ ++ b ∷ []) (attemptAt (isCommand s) (inHand s₁ ++ b ∷ []) 0)
-    ∙ ap on (in-hand-now s hand ∙ sym is)
+    ∙ ap (pick (restarts s c) (goesOn s (s .start + length c) firstCommand)) (same-attempt s hand c (attemptAt (isCommand s) c 0))
+    ∙ ap (λ (h : List ℕ). heardWith s (h ++ b ∷ [])) (in-hand-now s hand ∙ sym is)
     ∙ sym (hears s tries b) in
     first-byte s₁ tries b bs ∙ ap (λ (x : Listening). after 1 (listened x bs)) same ∙ sym (first-byte s tries b bs)
 

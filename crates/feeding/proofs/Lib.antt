@@ -1,5 +1,6 @@
 -- Laws of feeding that belong to no one function.
 pub mod AtOnce
+pub mod Idle
 pub mod Kept
 pub mod RefusedWithin
 pub mod Decided
@@ -8,3 +9,4 @@ pub mod Turning
 pub mod Begun
 pub mod Feeding
 pub mod BehindHand
+pub mod Running

@@ -5,24 +5,27 @@ use mathlib.Core.Bool.{Bool, false}
 use mathlib.Core.List.{List, [], _∷_, _++_, append-assoc, append-nil}
 use Prim.Native.Nat.{ℕ, _+_, _-_, _≤_, _<_, min, max}
 use native.Mathlib.Omega.{arith}
-use lib.Dec.{eqb}
-use lib.ListN.{length, getD, take, drop, replicate, length-append, length-take, length-drop, take-append-drop}
+use lib.Dec.{eqb, ltb}
+use lib.ListN.{length, getD, take, drop, length-append, length-take, length-drop, take-append-drop}
 use lib.Seq.{take-append-le, drop-append-le, length-take-le}
 use borrow.Author.Tests.{lt-ltb, le-ltb, lt-leb}
 use Rattle.lists.specs.Choice.{pick}
 use Rattle.lists.specs.Starting.{starting}
 use Rattle.lists.proofs.Cases.{pick-cases}
-use Rattle.lists.proofs.Filling.{put-whole, put-behind, start-of, length-starting}
+use Rattle.lists.proofs.Filling.{put-whole, put-behind, length-starting}
 use Rattle.refusal.specs.Number.{runEnded}
 use Rattle.escapes.specs.Escape.{syn}
+use Rattle.beginning.specs.Beginning.{piece}
+use Rattle.beginning.proofs.Pieces.{shorter-most}
 use Rattle.attempts.specs.Attempt.{Attempt, taken, nacked, failed, attemptAt}
 use Rattle.attempts.specs.Looks.{lookedAt}
 use Rattle.listening.specs.declared.Listening.{Listening}
 use Rattle.listening.specs.declared.Fed.{Fed}
-use Rattle.listening.specs.Listening.{firstCommand, firstReply, synDue, nothingDue, handRoom, inHand, hasAnswered, inHandNow, isCommand, onTaken, onNacked, onAttempt, onSyn, hear, after, listened}
+use Rattle.listening.specs.Listening.{firstCommand, firstReply, synDue, nothingDue, handRoom, inHand, hasAnswered, inHandNow, goesOn, isCommand, onTaken, onNacked, onAttempt, onSyn, hear, after, listened}
 use Rattle.feeding.specs.Inner.{stepBy, stepOn, joinedRoom, joined, Turned}
 use Rattle.listening.proofs.Undecided.{in-hand-now}
-use Rattle.feeding.proofs.AtOnce.{same-step, at-once}
+use Rattle.listening.proofs.Restart.{restarts-not}
+use Rattle.feeding.proofs.AtOnce.{NoRestart, same-step, at-once}
 
 -- ---- the bytes in hand, and behind them as many of a run as there is room for
 
@@ -94,14 +97,14 @@ abbrev pub counting : Fed → ℕ → Fed
 counting f n = record { state = f .state; used = n }
 
 -- an attempt on the bytes in hand and those behind them
-pub turned : (s : Listening) → s .due < synDue → (hand : List ℕ) → inHand s ≡ hand → (run rest : List ℕ) → 0 < length run
+pub turned : (s : Listening) → s .due < synDue → (hand : List ℕ) → inHand s ≡ hand → (run rest : List ℕ) → 0 < length run → NoRestart s hand run
     → (used : ℕ) → used ≡ stepOn s (hand ++ run) (length hand + 1) .used - length hand
     → Turned s (run ++ rest) (counting (stepOn s (hand ++ run) (length hand + 1)) used)
-turned s tries hand is [] rest h used e = let f : ⊥ = omega arith in absurd f
-turned s tries hand is (b ∷ r) rest h used e =
+turned s tries hand is [] rest h no-restart used e = let f : ⊥ = omega arith in absurd f
+turned s tries hand is (b ∷ r) rest h no-restart used e =
     let c = hand ++ b ∷ r in
     let f = stepOn s c (length hand + 1) in
-    let on = at-once r s (lt-ltb (s .due) synDue tries) hand is b rest in
+    let on = at-once r s (lt-ltb (s .due) synDue tries) hand is b rest no-restart in
     let within : used ≤ length (b ∷ r) = omega (arith, on .some, on .within, length-append hand (b ∷ r)) in
     record {
       some = omega (arith, on .some);
@@ -113,17 +116,17 @@ turned s tries hand is (b ∷ r) rest h used e =
     }
 
 -- nothing is in hand
-pub turned-alone : (s : Listening) → s .due < synDue → inHand s ≡ [] → (run : List ℕ) → 0 < length run → (f : Fed) → f ≡ stepOn s run 1 → Turned s run f
-turned-alone s tries empty run some-run f is =
+pub turned-alone : (s : Listening) → s .due < synDue → inHand s ≡ [] → (run : List ℕ) → 0 < length run → NoRestart s [] run → (f : Fed) → f ≡ stepOn s run 1 → Turned s run f
+turned-alone s tries empty run some-run no-restart f is =
     let g = stepOn s run 1 in
     let all : g .used ≡ g .used - 0 = omega arith in
-    subst (Turned s run) (sym is) (subst (λ (r : List ℕ). Turned s r g) (append-nil run) (turned s tries [] empty run [] some-run (g .used) all))
+    subst (Turned s run) (sym is) (subst (λ (r : List ℕ). Turned s r g) (append-nil run) (turned s tries [] empty run [] some-run no-restart (g .used) all))
 
 -- the bytes in hand are joined with some of the run
-pub turned-joined : (s₀ : Listening) → s₀ .due < synDue → (hand run : List ℕ) → length hand ≤ handRoom → 0 < length run
+pub turned-joined : (s₀ : Listening) → s₀ .due < synDue → (hand run : List ℕ) → length hand ≤ handRoom → 0 < length run → NoRestart s₀ hand run
     → (f : Fed) → f ≡ stepOn s₀ (joined hand run) (length hand + 1)
     → (length hand < f .used) × Turned (inHandNow s₀ hand) run (counting f (f .used - length hand))
-turned-joined s₀ tries hand run within some-run f is =
+turned-joined s₀ tries hand run within some-run no-restart f is =
     let s = inHandNow s₀ hand in
     let n = length hand in
     let r = take (joinedRoom - n) run in
@@ -131,7 +134,9 @@ turned-joined s₀ tries hand run within some-run f is =
     let g = stepOn s c (n + 1) in
     let f-is : f ≡ g = is ∙ sym (same-step s₀ hand c (max (n + 1) (lookedAt (isCommand s₀) c 0)) (attemptAt (isCommand s₀) c 0)) in
     let more : 0 < length r = omega (arith, length-take (joinedRoom - n) run) in
-    let t = turned s tries hand (in-hand-now s₀ hand) r (drop (joinedRoom - n) run) more (g .used - n) refl in
+    let whole : c ++ drop (joinedRoom - n) run ≡ hand ++ run = append-assoc hand r (drop (joinedRoom - n) run) ∙ ap (λ (x : List ℕ). hand ++ x) (take-append-drop (joinedRoom - n) run) in
+    let part : NoRestart s hand r = λ first. shorter-most c (drop (joinedRoom - n) run) n (subst (λ (x : List ℕ). piece x ≤ n) (sym whole) (no-restart first)) in
+    let t = turned s tries hand (in-hand-now s₀ hand) r (drop (joinedRoom - n) run) more part (g .used - n) refl in
     let used-is : f .used ≡ g .used = ap (λ (x : Fed). x .used) f-is in (
       omega (arith, t .some),
       subst (λ (x : Fed). Turned s run (counting x (x .used - n))) (sym f-is)
@@ -150,7 +155,11 @@ module _ (s : Listening) (due : synDue ≤ s .due) (undone : s .due < nothingDue
 
   pub hears : (b : ℕ) → hear s b ≡ onSyn s b
   unfolding hear
-  hears b = let c = inHand s ++ b ∷ [] in ap (λ (t : Bool). pick t (onAttempt s c (attemptAt (isCommand s) c 0)) (onSyn s b)) (le-ltb (s .due) synDue due)
+  hears b =
+      let c = inHand s ++ b ∷ [] in
+      let on = onAttempt s c (attemptAt (isCommand s) c 0) in
+      ap (λ (t : Bool). pick t (goesOn s (s .start + length c) firstCommand) (pick (ltb (s .due) synDue) on (onSyn s b))) (restarts-not s c (λ first whole. let f : ⊥ = omega (arith, first, due) in f))
+      ∙ ap (λ (t : Bool). pick t on (onSyn s b)) (le-ltb (s .due) synDue due)
 
   pub turned-syn : (run : List ℕ) → 0 < length run → Turned s run (record { state = onSyn s (getD run 0 0); used = 1 })
   turned-syn [] h = let f : ⊥ = omega arith in absurd f

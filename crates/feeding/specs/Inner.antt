@@ -18,6 +18,11 @@ use Rattle.feeding.specs.declared.attempt.Step.{Step}
 
 -- ---- marks
 
+-- those of a state, from a start in the recording
+abbrev pub marksOf : Listening → ℕ → Marks
+marksOf s start =
+    record { start = start; place = s .place; due = s .due; number = s .number; «command_attempts» = s .«command_attempts»; «reply_attempts» = s .«reply_attempts»; «command_length» = s .«command_length»; «reply_1_length» = s .«reply_1_length»; «reply_2_length» = s .«reply_2_length» }
+
 -- the state with these marks and these bytes, of which so many are in hand
 abbrev pub stateWith : Marks → ℕ → List ℕ → List ℕ → Listening
 stateWith m held raw kept =

@@ -4,7 +4,7 @@ use listening::KEPT_ROOM;
 use listening::Listening;
 use listening::NOTHING_DUE;
 ghost use mathlib.Core.Path.{_≡_};
-ghost use Rattle.feeding.specs.Inner.{stateWith, answersOn};
+ghost use Rattle.feeding.specs.Inner.{marksOf, stateWith, answersOn};
 
 // The numbers of a state with nothing in hand.
 pub(crate) struct Marks {
@@ -17,6 +17,23 @@ pub(crate) struct Marks {
     pub command_length: u8,
     pub reply_1_length: u8,
     pub reply_2_length: u8,
+}
+
+// Those of a state, from a start in the recording.
+pub(crate) fn marks_of(state: Listening, start: usize) -> Marks
+    ensures { λ r. ⌜ r ≡ marksOf state start ⌝ }
+{
+    Marks {
+        start,
+        place: state.place,
+        due: state.due,
+        number: state.number,
+        command_attempts: state.command_attempts,
+        reply_attempts: state.reply_attempts,
+        command_length: state.command_length,
+        reply_1_length: state.reply_1_length,
+        reply_2_length: state.reply_2_length,
+    }
 }
 
 // The answer is known: a number and its place in the recording, or 0 and 0.

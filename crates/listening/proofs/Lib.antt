@@ -1,2 +1,3 @@
 -- Laws of listening that belong to no one function.
 pub mod Undecided
+pub mod Restart

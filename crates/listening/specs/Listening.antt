@@ -1,9 +1,9 @@
--- Bytes as they arrive, rules E19 and E20: a state of listening, what a byte and a run make of it, and what it answers when
+-- Bytes as they arrive, rules E19 to E21: a state of listening, what a byte and a run make of it, and what it answers when
 -- it is closed. A state holds what was accepted and the raw bytes of the attempt in hand, which is judged anew with each
 -- byte until it is decided. There is an answer for every state, also for one that no listening leads to.
 -- Assumes nothing.
 use Prim.Native.Nat.{ℕ, _+_, _-_, min}
-use mathlib.Core.Bool.{Bool}
+use mathlib.Core.Bool.{Bool, _&&_}
 use mathlib.Core.List.{List, [], _∷_, _++_}
 use lib.Dec.{eqb, ltb, leb}
 use lib.ListN.{length, take, drop, replicate}
@@ -16,6 +16,7 @@ use Rattle.addresses.specs.declared.ExchangeKind.{ExchangeKind}
 use Rattle.addresses.specs.declared.ExchangeKind.the-variants.{Broadcast, InitiatorInitiator, InitiatorTarget}
 use Rattle.addresses.specs.Address.{kindOf}
 use Rattle.telegram.specs.Telegram.{commandRoom, replyRoom, destinationOf}
+use Rattle.beginning.specs.Beginning.{isPiece}
 use Rattle.attempts.specs.Attempt.{Attempt, taken, nacked, failed, attemptAt}
 use Rattle.exchange.specs.Exchange.{limit, nackedTwice, Outcome, accepted, rejected, rooms}
 use Rattle.listening.specs.declared.Listening.{Listening}
@@ -147,11 +148,16 @@ onSyn s b =
     let n = length (inHand s) in
     pick (eqb b syn) (answers s (s .start + (n + 1)) 0 0) (refuses s (n + 1) (at-place busError n))
 
--- one byte behind those in hand: the attempt is judged anew, or it is SYN's turn
+-- rule E21: as long as SRC or DST of the first command is not whole, a SYN throws away what is in hand
+abbrev pub restarts : Listening → List ℕ → Bool
+restarts s c = eqb (s .due) firstCommand && isPiece c
+
+-- one byte behind those in hand: all is thrown away, or the attempt is judged anew, or it is SYN's turn
 unfoldable pub hear : Listening → ℕ → Listening
 hear s b =
     let c = inHand s ++ b ∷ [] in
-    pick (ltb (s .due) synDue) (onAttempt s c (attemptAt (isCommand s) c 0)) (onSyn s b)
+    pick (restarts s c) (goesOn s (s .start + length c) firstCommand)
+    (pick (ltb (s .due) synDue) (onAttempt s c (attemptAt (isCommand s) c 0)) (onSyn s b))
 
 -- ---- a run more
 

@@ -1,4 +1,4 @@
-// Bytes as they arrive: an exchange is judged while its bytes come in, run after run (rules E19 and E20).
+// Bytes as they arrive: an exchange is judged while its bytes come in, run after run (rules E19 to E21).
 //
 // A state holds the raw bytes of the attempt in hand. Each run is looked at behind them, an attempt at
 // once as far as its bytes are there; what is cut off stays in hand. So nothing is judged byte by byte,

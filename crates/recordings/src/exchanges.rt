@@ -217,7 +217,8 @@ pub(crate) fn reply_nacked() -> Tally {
     )
 }
 
-// A command of 41 raw bytes and a reply of 35; escapes in SRC, DST and LEN, broken ones, and one where a byte is due.
+// A command of 41 raw bytes and a reply of 35; escapes in SRC, DST and LEN, broken ones, one that SYN breaks at the beginning, and one
+// where a byte is due.
 pub(crate) fn escaped() -> Tally {
     cases(
         Lines::Exchanges,
@@ -227,9 +228,44 @@ A9 00 08 B5 11 01 01 89 00 01 2A B1 00 AA ! 06 00
 10 08 B5 11 A9 00 01 89 00 01 2A B1 00 AA ! 08 04
 A9 55 ! 04 01
 10 A9 55 ! 04 02
-10 A9 AA ! 05 02
+10 A9 AA ! 03 03
 10 08 A9 ! 03 03
 10 08 B5 11 01 01 89 A9 00 ! 12 07
+",
+    )
+}
+
+// SYN at the beginning throws away what was collected, until two logical bytes have come. A wrong source comes first, and neither
+// a second attempt nor a reply begins anew.
+pub(crate) fn idle() -> Tally {
+    cases(
+        Lines::Exchanges,
+        b"AA AA AA 10 08 B5 11 01 01 89 00 01 2A B1 00 AA = 02 01 01 / 10 08 B5 11 01 01 89 / 01 2A B1 /
+AA A9 AA 31 AA 10 A9 AA 10 FE 07 FE 00 F3 AA = 00 01 00 / 10 FE 07 FE 00 F3 / /
+FF AA 00 A9 AA 10 31 01 02 01 07 E4 FF 30 31 03 04 02 08 09 1D 00 AA = 01 02 00 / 30 31 03 04 02 08 09 1D / /
+AA ! 03 01
+AA AA ! 03 02
+A9 AA ! 03 02
+10 AA ! 03 02
+AA 10 ! 03 02
+AA 10 A9 ! 03 03
+02 AA ! 06 00
+AA 02 AA ! 06 01
+10 AA 08 AA ! 06 02
+A9 10 ! 04 01
+AA A9 A9 ! 04 02
+10 A9 10 ! 04 02
+10 A9 00 AA ! 07 01
+10 08 AA ! 05 02
+AA 10 08 AA ! 05 03
+FF AA FF A9 AA 10 08 AA ! 05 07
+10 31 01 02 01 07 E4 FF AA ! 05 08
+10 31 01 02 01 07 E4 FF 30 AA ! 05 09
+10 31 01 02 01 07 E4 FF A9 AA ! 05 09
+AA 10 08 01 02 01 07 72 00 AA ! 05 09
+AA 10 08 01 02 01 07 72 AA ! 05 08
+AA 10 08 B5 11 01 01 89 55 ! 12 08
+AA 10 08 B5 11 01 01 88 00 ! 09 07
 ",
     )
 }
@@ -283,10 +319,11 @@ fn nibble(n: u8) -> bool {
     }
 }
 
+// At the beginning SYN is thrown away with what stood before it, and the next byte of W7 is no source.
 fn source_due(b: u8) -> Expected {
     match b {
         0x10 => due(0, 0),
-        0xAA => due(5, 0),
+        0xAA => due(6, 1),
         0xA9 => due(4, 1),
         _ => {
             if nibble(b / 16) && nibble(b % 16) {
@@ -301,7 +338,7 @@ fn source_due(b: u8) -> Expected {
 fn destination_due(b: u8) -> Expected {
     match b {
         0x08 => due(0, 0),
-        0xAA => due(5, 1),
+        0xAA => due(6, 2),
         0xA9 => due(4, 2),
         _ => due(9, 6),
     }

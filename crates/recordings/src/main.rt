@@ -37,6 +37,7 @@ fn say_recorded() {
     exchanges::command_nacked().say(b"exchanges, command NACKed");
     exchanges::reply_nacked().say(b"exchanges, reply NACKed");
     exchanges::escaped().say(b"exchanges, escapes");
+    exchanges::idle().say(b"exchanges, SYN at the beginning");
 }
 
 fn say_made() {

@@ -2,13 +2,12 @@
 -- Assumes nothing.
 use mathlib.Core.Path.{_≡_, refl, sym, ap, _∙_, subst}
 use mathlib.Core.Bool.{Bool, true, false}
-use mathlib.Core.List.{List, [], _++_, append-assoc}
+use mathlib.Core.List.{List, [], _++_}
 use mathlib.Mathlib.Logic.Function.Defs.{id}
-use Prim.Native.Nat.{ℕ, _+_, _-_, _≤_, _<_}
+use Prim.Native.Nat.{ℕ, _+_, _≤_, _<_}
 use native.Mathlib.Omega.{arith}
 use lib.Dec.{ltb}
-use lib.ListN.{length, take, drop, take-append-drop}
-use lib.Seq.{take-append-add}
+use lib.ListN.{length, take, drop}
 use borrow.Author.Tests.{le-leb, lt-ltb, ltb-true}
 use Rattle.lists.specs.Choice.{pick}
 use Rattle.lists.proofs.Cases.{by-test}
@@ -39,10 +38,11 @@ use Rattle.answers.specs.Writing.{writeFound, writeEnd}
 use Rattle.requests.specs.declared.Request.{Request}
 use Rattle.requests.proofs.RoundTrip.{request-read-back, request-exact}
 use Rattle.answers.proofs.RoundTrip.{found-read-back, end-read-back, found-exact, end-exact}
+use Rattle.rulebook.specs.Rules.{OnWire, Idle}
 use Rattle.rulebook.specs.ReadBack.{commandBytes, replyBytes, Before, nothing, nacked-once, attemptsOf, firstTried, secondTried}
-use Rattle.rulebook.specs.Demand2.{Stands, Filled, Shown, BusDemand, FrameDemand, Demand2}
+use Rattle.rulebook.specs.Demand2.{Stands, Recorded, Filled, Shown, BusDemand, FrameDemand, Demand2}
 use Rattle.rulebook.proofs.RuleBook.{rules-accepted, accepted-by-rules}
-use Rattle.rulebook.proofs.WireLength.{lengths}
+use Rattle.rulebook.proofs.Recording.{accepted-recorded, recorded-accepted, recorded-longer, recorded-read}
 use Rattle.rulebook.proofs.DataShown.{data-shown, first-shows, second-shows}
 use Rattle.rulebook.proofs.WrittenRead.{command-written, command-form, command-right, reply-written, reply-form, reply-right, broadcast-on-wire, initiators-on-wire, target-on-wire}
 
@@ -60,30 +60,6 @@ module _ (run : List ℕ) (at : ℕ) (kind : ExchangeKind) (a b n : ℕ) (comman
       ∙ ap (λ (k : ℕ). accepted kind a b k command first second) (sym (s .ends))
 
 -- ---- the judge
-
--- what stands at the start of the bytes that are read stands at the start of the run, and the other way round
-module _ (run : List ℕ) (kind : ExchangeKind) (a b n : ℕ) (command first second : List ℕ) where
-  stands-longer : Stands (take limit run) 0 kind a b n command first second → Stands run 0 kind a b n command first second
-  stands-longer s =
-      record {
-        raw = s .raw;
-        rest = s .rest ++ drop limit run;
-        by-rules = s .by-rules;
-        there = sym (take-append-drop limit run) ∙ ap (λ (l : List ℕ). l ++ drop limit run) (s .there) ∙ append-assoc (s .raw) (s .rest) (drop limit run);
-        ends = s .ends;
-      }
-
-  stands-read : Stands run 0 kind a b n command first second → Stands (take limit run) 0 kind a b n command first second
-  stands-read s =
-      let left = limit - length (s .raw) in
-      let all : limit ≡ length (s .raw) + left = omega (arith, lengths .exchange-at-most kind a b command first second (s .raw) (s .by-rules)) in
-      record {
-        raw = s .raw;
-        rest = take left (s .rest);
-        by-rules = s .by-rules;
-        there = ap (take limit) (s .there) ∙ ap (λ (k : ℕ). take k (s .raw ++ s .rest)) all ∙ take-append-add (s .raw) (s .rest) left;
-        ends = s .ends;
-      }
 
 -- what is accepted passed the rooms
 behind-rooms : (run : List ℕ) (c f s : ℕ) (kind : ExchangeKind) (a b n : ℕ) (command first second : List ℕ)
@@ -110,27 +86,28 @@ module _ (run c f s : List ℕ) (r : Judged) (c′ f′ s′ : List ℕ)
   )
 
   takes : commandRoom ≤ length c → replyRoom ≤ length f → replyRoom ≤ length s
-      → (kind : ExchangeKind) (a b n : ℕ) (command first second : List ℕ) → Stands run 0 kind a b n command first second
+      → (kind : ExchangeKind) (a b n : ℕ) (command first second : List ℕ) → Recorded run kind a b n command first second → n ≤ limit
       → (r ≡ Accepted kind a b n) × Filled command first second c f s c′ f′ s′ × Shown b first second f′ s′
-  takes c-room f-room s-room kind a b n command first second stands =
+  takes c-room f-room s-room kind a b n command first second recorded within =
       let given = answers (accepted kind a b n command first second)
-      (room-enough (length c) (length f) (length s) run c-room f-room s-room ∙ stands-accepted (take limit run) 0 kind a b n command first second (stands-read run kind a b n command first second stands)) in (
+      (room-enough (length c) (length f) (length s) run c-room f-room s-room ∙ recorded-accepted (take limit run) kind a b n command first second (recorded-read run kind a b n command first second recorded within)) in (
         given .0,
         given .1,
         subst (λ (x : List ℕ). Shown b first second x s′) (sym (given .1 .first-buffer))
             (subst (λ (x : List ℕ). Shown b first second (starting first f) x) (sym (given .1 .second-buffer))
-            (data-shown kind a b command first second (stands .raw) f s (stands .by-rules))),
+            (data-shown kind a b command first second (recorded .raw) f s (recorded .by-rules))),
       )
 
   only : (kind : ExchangeKind) (a b n : ℕ) → r ≡ Accepted kind a b n
-      → (command : List ℕ) × (first : List ℕ) × (second : List ℕ) × Stands run 0 kind a b n command first second
+      → (command : List ℕ) × (first : List ℕ) × (second : List ℕ) × Recorded run kind a b n command first second × (n ≤ limit)
   only kind a b n told = by (judged run (length c) (length f) (length s)) refl
     where
-      by : (o : Outcome) → judged run (length c) (length f) (length s) ≡ o → (command : List ℕ) × (first : List ℕ) × (second : List ℕ) × Stands run 0 kind a b n command first second
+      by : (o : Outcome) → judged run (length c) (length f) (length s) ≡ o → (command : List ℕ) × (first : List ℕ) × (second : List ℕ) × Recorded run kind a b n command first second × (n ≤ limit)
       by (accepted kind′ a′ b′ n′ command first second) e =
           let given = answers (accepted kind′ a′ b′ n′ command first second) e .0 in
           let same : accepted kind′ a′ b′ n′ command first second ≡ accepted kind a b n command first second = cc in
-          (command, first, second, stands-longer run kind a b n command first second (accepted-stands (take limit run) 0 kind a b n command first second (behind-rooms run (length c) (length f) (length s) kind a b n command first second (e ∙ same))))
+          let found = recorded-longer run kind a b n command first second (accepted-recorded (take limit run) kind a b n command first second (behind-rooms run (length c) (length f) (length s) kind a b n command first second (e ∙ same))) in
+          (command, first, second, found .0, found .1)
       by (rejected why) e =
           let given = answers (rejected why) e .0 in
           let z : _≡_ {A = ℕ} 0 1 = cc in
@@ -227,6 +204,15 @@ end-written : (room : ℕ) → length endFrame ≤ room → writeEnd room ≡ by
 unfolding writeEnd
 end-written room fits = simp (le-leb _ _ fits)
 
+-- ---- read back
+
+-- an exchange of the rule book, behind any idle time
+behind-idle : (idle rest : List ℕ) → Idle idle → {kind : ExchangeKind} {a b : ℕ} {command first second raw : List ℕ} → OnWire kind a b command first second raw
+    → exchange (idle ++ (raw ++ rest)) ≡ accepted kind a b (length idle + length raw) command first second
+behind-idle idle rest idles {kind} {a} {b} {command} {first} {second} {raw} by-rules =
+    recorded-accepted (idle ++ (raw ++ rest)) kind a b (length idle + length raw) command first second
+    (record { before = idle; raw = raw; rest = rest; idle = idles; by-rules = by-rules; whole = refl; ends = refl })
+
 -- ---- the claim
 
 bus : BusDemand
@@ -236,6 +222,8 @@ bus =
       escapes-exact = expand-undo;
       accepted-stands = accepted-stands;
       stands-accepted = stands-accepted;
+      accepted-recorded = accepted-recorded;
+      recorded-accepted = recorded-accepted;
       judging = λ run c f s r c′ f′ s′ judges.
           record {
             takes = takes run c f s r c′ f′ s′ judges;
@@ -256,12 +244,12 @@ bus =
         command-right source destination primary secondary payload raw e,
       );
       reply-written = λ payload raw e. (reply-written payload raw e .wire, reply-form payload raw e, reply-right payload);
-      broadcast-back = λ source destination primary secondary payload raw e is before run at rest wire.
-          rules-accepted run at _ _ _ _ _ _ _ rest (broadcast-on-wire source destination primary secondary payload raw e before is) wire;
-      initiators-back = λ source destination primary secondary payload raw e is before run at rest wire.
-          rules-accepted run at _ _ _ _ _ _ _ rest (initiators-on-wire source destination primary secondary payload raw e before is) wire;
-      target-back = λ source destination primary secondary payload raw e is answer replying written before first run at rest wire.
-          rules-accepted run at _ _ _ _ _ _ _ rest (target-on-wire source destination primary secondary payload raw e before is answer replying written first) wire;
+      broadcast-back = λ source destination primary secondary payload raw e is before idle rest idles.
+          behind-idle idle rest idles (broadcast-on-wire source destination primary secondary payload raw e before is);
+      initiators-back = λ source destination primary secondary payload raw e is before idle rest idles.
+          behind-idle idle rest idles (initiators-on-wire source destination primary secondary payload raw e before is);
+      target-back = λ source destination primary secondary payload raw e is answer replying written before first idle rest idles.
+          behind-idle idle rest idles (target-on-wire source destination primary secondary payload raw e before is answer replying written first);
       data-back = data-back;
     }
 

@@ -3,6 +3,7 @@ pub mod WholeForms
 pub mod OwnWords
 pub mod AcceptedOnWire
 pub mod RuleBook
+pub mod Recording
 pub mod WrittenRead
 pub mod DataShown
 pub mod Demand2

@@ -148,12 +148,12 @@ pub longer : (run more : List ℕ) (at : ℕ)
     → (exchangeAt run at ≡ rejected (runOver run)) ⊎ (exchangeAt (run ++ more) at ≡ exchangeAt run at)
 longer run more at = either (λ r. exchangeAt r at) (λ r m. exchange-stays r m at) run more
 
--- "An answer other than number 3 on a run is the answer on every longer run"
+-- an answer other than number 3 on a run is the answer on every longer run
 pub answer-stays : (run more : List ℕ) (at : ℕ) → ((place : ℕ) → exchangeAt run at ≡ rejected (at-place runEnded place) → ⊥)
     → exchangeAt (run ++ more) at ≡ exchangeAt run at
 answer-stays run more at other = same-later (λ r. exchangeAt r at) (λ r m. exchange-stays r m at) run more other
 
--- "a run that is refused with 3 has no shorter prefix with another answer"
+-- a run that is refused with 3 has no shorter prefix with another answer
 pub three-before : (run more : List ℕ) (at place : ℕ) → exchangeAt (run ++ more) at ≡ rejected (at-place runEnded place)
     → exchangeAt run at ≡ rejected (runOver run)
 three-before run more at place e = same-before (λ r. exchangeAt r at) (λ r m. exchange-stays r m at) run more place e

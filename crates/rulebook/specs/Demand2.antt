@@ -23,7 +23,7 @@ use Rattle.addresses.specs.declared.ExchangeKind.the-variants.{Broadcast, Initi
 use Rattle.telegram.specs.Telegram.{longest, commandRoom, replyRoom}
 use Rattle.sending.specs.Sending.{commandOutput, replyOutput}
 use Rattle.attempts.specs.Attempt.{ack}
-use Rattle.exchange.specs.Exchange.{accepted, exchangeAt, judged}
+use Rattle.exchange.specs.Exchange.{accepted, exchangeAt, exchange, limit, judged}
 use Rattle.replies.specs.Data.{replyData}
 use Rattle.exchange.specs.View.{Judges}
 use Rattle.exchange.specs.declared.judge.Judged.{Judged}
@@ -38,7 +38,7 @@ use Rattle.answers.specs.Writing.{writeFound, writeEnd}
 use Rattle.requests.specs.declared.Request.{Request}
 use Rattle.requests.specs.declared.RequestRead.the-variants.{Asked}
 use Rattle.answers.specs.declared.AnswerRead.the-variants.{Found, End}
-use Rattle.rulebook.specs.Rules.{CommandForm, ReplyForm, Right, OnWire}
+use Rattle.rulebook.specs.Rules.{CommandForm, ReplyForm, Right, OnWire, Idle}
 use Rattle.rulebook.specs.ReadBack.{commandBytes, replyBytes, Before, rawBefore, attemptsOf, firstTried, secondTried}
 
 -- ---- eBUS
@@ -50,6 +50,16 @@ pub record Stands (run : List ℕ) (at : ℕ) (kind : ExchangeKind) (commands re
   pub by-rules : OnWire kind commands replies command first second raw
   pub there : drop at run ≡ raw ++ rest
   pub ends : next ≡ at + length raw
+
+-- a run begins with idle time, if any, and then an exchange of the rule book that ends at next, whatever follows it
+pub record Recorded (run : List ℕ) (kind : ExchangeKind) (commands replies next : ℕ) (command first second : List ℕ) : Type 0 where
+  pub before : List ℕ
+  pub raw : List ℕ
+  pub rest : List ℕ
+  pub idle : Idle before
+  pub by-rules : OnWire kind commands replies command first second raw
+  pub whole : run ≡ before ++ (raw ++ rest)
+  pub ends : next ≡ length before + length raw
 
 -- three buffers start with the command and the attempts at the reply, and keep what they held behind them
 pub record Filled (command first second : List ℕ) (c f s c′ f′ s′ : List ℕ) : Type 0 where
@@ -65,14 +75,14 @@ pub record Shown (replies : ℕ) (first second f′ s′ : List ℕ) : Type 0 wh
 
 -- what the judge answered, r, for a run and buffers that held c, f, s and now hold c′, f′, s′
 pub record Judging (run : List ℕ) (c f s : List ℕ) (r : Judged) (c′ f′ s′ : List ℕ) : Type 0 where
-  -- with buffers that are long enough, what the rule book has at the run's beginning is accepted: with its kind, attempts and bytes
-  -- read, the buffers filled with its telegrams, and its data shown
+  -- with buffers that are long enough, what the rule book has behind the run's idle time is accepted, if it ends within the bytes that
+  -- are read: with its kind, attempts and bytes read, the buffers filled with its telegrams, and its data shown
   pub takes : commandRoom ≤ length c → replyRoom ≤ length f → replyRoom ≤ length s
-      → (kind : ExchangeKind) (commands replies next : ℕ) (command first second : List ℕ) → Stands run 0 kind commands replies next command first second
+      → (kind : ExchangeKind) (commands replies next : ℕ) (command first second : List ℕ) → Recorded run kind commands replies next command first second → next ≤ limit
       → (r ≡ Accepted kind commands replies next) × Filled command first second c f s c′ f′ s′ × Shown replies first second f′ s′
   -- nothing else is accepted
   pub only : (kind : ExchangeKind) (commands replies next : ℕ) → r ≡ Accepted kind commands replies next
-      → (command : List ℕ) × (first : List ℕ) × (second : List ℕ) × Stands run 0 kind commands replies next command first second
+      → (command : List ℕ) × (first : List ℕ) × (second : List ℕ) × Recorded run kind commands replies next command first second × (next ≤ limit)
   -- a refusal leaves the buffers as they were, rule N1
   pub leaves : (why : Refusal) → r ≡ Refused why → Filled [] [] [] c f s c′ f′ s′
 
@@ -94,7 +104,12 @@ pub record BusDemand : Type 0 where
       → exchangeAt run at ≡ accepted kind commands replies next command first second → Stands run at kind commands replies next command first second
   pub stands-accepted : (run : List ℕ) (at : ℕ) (kind : ExchangeKind) (commands replies next : ℕ) (command first second : List ℕ)
       → Stands run at kind commands replies next command first second → exchangeAt run at ≡ accepted kind commands replies next command first second
-  -- so the judge
+  -- so of a whole recording, from where its command starts
+  pub accepted-recorded : (run : List ℕ) (kind : ExchangeKind) (commands replies next : ℕ) (command first second : List ℕ)
+      → exchange run ≡ accepted kind commands replies next command first second → Recorded run kind commands replies next command first second
+  pub recorded-accepted : (run : List ℕ) (kind : ExchangeKind) (commands replies next : ℕ) (command first second : List ℕ)
+      → Recorded run kind commands replies next command first second → exchange run ≡ accepted kind commands replies next command first second
+  -- and so the judge
   pub judging : (run c f s : List ℕ) (r : Judged) (c′ f′ s′ : List ℕ)
       → Judges id (judged run (length c) (length f) (length s)) r c c′ f f′ s s′ → Judging run c f s r c′ f′ s′
   -- every writer of eBUS (of escapes, undone escapes, commands and replies), by its promise
@@ -109,24 +124,24 @@ pub record BusDemand : Type 0 where
       × CommandForm (commandBytes source destination primary secondary payload) × Right (commandBytes source destination primary secondary payload)
   pub reply-written : (payload raw : List ℕ) → replyOutput payload ≡ bytes raw
       → (raw ≡ expanded (replyBytes payload)) × ReplyForm (replyBytes payload) × Right (replyBytes payload)
-  -- written, with acknowledge bytes and SYN added, it is read back wherever it stands: for each kind, with and without a NACKed
+  -- written, with acknowledge bytes and SYN added, it is read back behind any idle time: for each kind, with and without a NACKed
   -- first attempt at the command and at the reply
   pub broadcast-back : (source destination primary secondary : ℕ) (payload raw : List ℕ) → commandOutput source destination primary secondary payload ≡ bytes raw
-      → kindOf destination ≡ Broadcast → (before : Before true) (run : List ℕ) (at : ℕ) (rest : List ℕ)
-      → drop at run ≡ (rawBefore before raw ++ syn ∷ []) ++ rest
-      → exchangeAt run at ≡ accepted Broadcast (attemptsOf before) 0 (at + length (rawBefore before raw ++ syn ∷ []))
+      → kindOf destination ≡ Broadcast → (before : Before true) (idle rest : List ℕ) → Idle idle
+      → exchange (idle ++ ((rawBefore before raw ++ syn ∷ []) ++ rest))
+      ≡ accepted Broadcast (attemptsOf before) 0 (length idle + length (rawBefore before raw ++ syn ∷ []))
       (commandBytes source destination primary secondary payload) [] []
   pub initiators-back : (source destination primary secondary : ℕ) (payload raw : List ℕ) → commandOutput source destination primary secondary payload ≡ bytes raw
-      → kindOf destination ≡ InitiatorInitiator → (before : Before true) (run : List ℕ) (at : ℕ) (rest : List ℕ)
-      → drop at run ≡ (rawBefore before (raw ++ ack ∷ []) ++ syn ∷ []) ++ rest
-      → exchangeAt run at ≡ accepted InitiatorInitiator (attemptsOf before) 0 (at + length (rawBefore before (raw ++ ack ∷ []) ++ syn ∷ []))
+      → kindOf destination ≡ InitiatorInitiator → (before : Before true) (idle rest : List ℕ) → Idle idle
+      → exchange (idle ++ ((rawBefore before (raw ++ ack ∷ []) ++ syn ∷ []) ++ rest))
+      ≡ accepted InitiatorInitiator (attemptsOf before) 0 (length idle + length (rawBefore before (raw ++ ack ∷ []) ++ syn ∷ []))
       (commandBytes source destination primary secondary payload) [] []
   pub target-back : (source destination primary secondary : ℕ) (payload raw : List ℕ) → commandOutput source destination primary secondary payload ≡ bytes raw
       → kindOf destination ≡ InitiatorTarget → (answer replying : List ℕ) → replyOutput answer ≡ bytes replying
-      → (before : Before true) (first : Before false) (run : List ℕ) (at : ℕ) (rest : List ℕ)
-      → drop at run ≡ (rawBefore before (raw ++ ack ∷ []) ++ (rawBefore first (replying ++ ack ∷ []) ++ syn ∷ [])) ++ rest
-      → exchangeAt run at ≡ accepted InitiatorTarget (attemptsOf before) (attemptsOf first)
-      (at + length (rawBefore before (raw ++ ack ∷ []) ++ (rawBefore first (replying ++ ack ∷ []) ++ syn ∷ [])))
+      → (before : Before true) (first : Before false) (idle rest : List ℕ) → Idle idle
+      → exchange (idle ++ ((rawBefore before (raw ++ ack ∷ []) ++ (rawBefore first (replying ++ ack ∷ []) ++ syn ∷ [])) ++ rest))
+      ≡ accepted InitiatorTarget (attemptsOf before) (attemptsOf first)
+      (length idle + length (rawBefore before (raw ++ ack ∷ []) ++ (rawBefore first (replying ++ ack ∷ []) ++ syn ∷ [])))
       (commandBytes source destination primary secondary payload) (firstTried first (replyBytes answer)) (secondTried first (replyBytes answer))
   -- and the data shown is what was handed to the writer of the reply
   pub data-back : (answer replying : List ℕ) → replyOutput answer ≡ bytes replying → (first : Before false) (f s : List ℕ)

@@ -36,7 +36,7 @@ pub record Lengths : Type 0 where
   -- and none that is read: it ends at most that many raw bytes behind its position
   pub read-at-most : (command : Bool) (run : List ℕ) (at : ℕ) (telegram : List ℕ) (checkPlace next : ℕ)
       → telegramAt command run at ≡ read telegram checkPlace next → next ≤ at + longestOnWire command
-  -- so no exchange of the rule book takes more, and rule E20 leaves none unread
+  -- so no exchange of the rule book takes more: one that starts so many bytes before the limit of rule E20 is read whole
   pub exchange-at-most : (kind : ExchangeKind) (commands replies : ℕ) (command first second raw : List ℕ) → OnWire kind commands replies command first second raw
       → length raw ≤ longestExchange
   -- both lengths are reached

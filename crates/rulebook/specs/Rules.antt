@@ -1,14 +1,15 @@
 -- The rule book: what may stand on the wire, said once more with no mention of refusals, positions or reading, and in words of
--- its own: rules E9, E10 and E12 to E15. That the judge accepts a run exactly when its beginning is in `OnWire`, with the same kind,
--- attempts and bytes, is proved in proofs/RuleBook.antt; it guards the definitions of attempts/specs/Attempt.antt
--- and exchange/specs/Exchange.antt.
+-- its own: rules E9, E10, E12 to E15 and E21. That the judge accepts a run exactly when it begins with what is `Idle` and then what
+-- is in `OnWire`, within the bytes that are read, with the same kind, attempts and bytes, is proved in proofs/RuleBook.antt and
+-- proofs/Recording.antt; it guards the definitions of beginning/specs/Beginning.antt, attempts/specs/Attempt.antt and
+-- exchange/specs/Exchange.antt.
 -- Assumes nothing.
 use mathlib.Core.Path.{_≡_}
 use mathlib.Core.Bool.{Bool, true, false}
 use mathlib.Core.List.{List, [], _∷_, _++_}
 use Prim.Native.Nat.{ℕ, _≤_}
 use lib.ListN.{length}
-use Rattle.escapes.specs.Escape.{syn, expanded}
+use Rattle.escapes.specs.Escape.{esc, syn, expanded}
 use Rattle.addresses.specs.declared.ExchangeKind.{ExchangeKind}
 use Rattle.addresses.specs.declared.ExchangeKind.the-variants.{Broadcast, InitiatorInitiator, InitiatorTarget}
 use Rattle.addresses.specs.Address.{initiator, reserved, everyone, kindOf}
@@ -77,3 +78,11 @@ pub data OnWire : ExchangeKind → ℕ → ℕ → List ℕ → List ℕ → Lis
   target : {a b : ℕ} {first second command raw reply1 reply2 reply raw′ : List ℕ} → Attempts true a first second command raw
       → kindOf (destinationOf command) ≡ InitiatorTarget → Attempts false b reply1 reply2 reply raw′
       → OnWire InitiatorTarget a b command reply1 reply2 (raw ++ (raw′ ++ syn ∷ []))
+
+-- what may stand before the exchange, rule E21: any number of pieces, each ended by SYN before two logical bytes had come
+pub data Idle : List ℕ → Type 0 where
+  nothing : Idle []
+  syn-alone : {raw : List ℕ} → Idle raw → Idle (syn ∷ raw)
+  escape : {raw : List ℕ} → Idle raw → Idle (esc ∷ syn ∷ raw)
+  source : {s : ℕ} {raw : List ℕ} → initiator s ≡ true → Idle raw → Idle (s ∷ syn ∷ raw)
+  source-escape : {s : ℕ} {raw : List ℕ} → initiator s ≡ true → Idle raw → Idle (s ∷ esc ∷ syn ∷ raw)

@@ -1,7 +1,7 @@
 //! All cases, and how one is made from its name and size.
 
 use crate::case::Case;
-use crate::{checks, contest, exchanges, feed, judge, scan, table};
+use crate::{checks, contest, exchanges, feed, idle, judge, scan, table};
 
 /// Numbers of keys and of devices.
 const NUMBERS: [usize; 4] = [1, 16, 64, scan::MOST];
@@ -10,12 +10,13 @@ const NUMBERS: [usize; 4] = [1, 16, 64, scan::MOST];
 const EXCHANGES: [usize; 2] = [exchanges::LONG, exchanges::SHORT];
 
 /// Every case with its sizes, in the order in which they are measured.
-pub const ALL: [(&str, &[usize]); 9] = [
+pub const ALL: [(&str, &[usize]); 10] = [
     (checks::MODBUS, &[8, 64, 256, 4096]),
     (checks::EBUS, &[8, 20, 64, 256]),
     (judge::JUDGE, &EXCHANGES),
     (feed::FEED_64, &EXCHANGES),
     (feed::FEED_1, &EXCHANGES),
+    (idle::IDLE, &[64, 4096, idle::SYNS]),
     (contest::CONTEST, &NUMBERS),
     (table::VALID, &NUMBERS),
     (table::START, &NUMBERS),
@@ -31,6 +32,7 @@ pub fn make(name: &str, size: usize) -> Result<Case, String> {
         judge::JUDGE => judge::judge(size),
         feed::FEED_64 => feed::feed_64(size),
         feed::FEED_1 => feed::feed_1(size),
+        idle::IDLE => idle::idle(size),
         contest::CONTEST => contest::contest(size),
         table::VALID => table::valid(size),
         table::START => table::start(size),

@@ -8,7 +8,7 @@ use moortinker::sys;
 
 use crate::case::{Case, OURS};
 use crate::exchanges;
-use crate::judge::{self, judge_ours, Buffers, JUDGE};
+use crate::judge::{self, judge_ours, Buffers, Judging, JUDGE};
 
 /// Runs as long as a serial line hands them over.
 pub const FEED_64: &str = "feed-64";
@@ -22,9 +22,6 @@ pub fn feed_64(size: usize) -> Result<Case, String> {
 pub fn feed_1(size: usize) -> Result<Case, String> {
     case(FEED_1, size, feed_in_runs::<1>)
 }
-
-/// One way to judge an exchange.
-type Judging = fn(&[u8], &mut Buffers) -> sys::Judged;
 
 /// The exchanges are those of the case `judge`.
 fn case(name: &'static str, size: usize, feed: Judging) -> Result<Case, String> {
@@ -43,7 +40,7 @@ fn case(name: &'static str, size: usize, feed: Judging) -> Result<Case, String> 
     })
 }
 
-fn feed_in_runs<const LENGTH: usize>(exchange: &[u8], buffers: &mut Buffers) -> sys::Judged {
+pub fn feed_in_runs<const LENGTH: usize>(exchange: &[u8], buffers: &mut Buffers) -> sys::Judged {
     // SAFETY: no pointer is handed over.
     let mut state = unsafe { sys::moor_listen() };
     for run in exchange.chunks(LENGTH) {

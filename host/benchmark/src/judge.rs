@@ -21,19 +21,39 @@ pub struct Buffers {
     pub reply_2: [u8; sys::MOOR_REPLY_ROOM],
 }
 
-type Answer = Result<exchange::Judged, Refusal>;
+pub type Answer = Result<exchange::Judged, Refusal>;
+
+/// One way to judge an exchange: the archive's, and the second's.
+pub type Judging = fn(&[u8], &mut Buffers) -> sys::Judged;
+pub type SecondJudging = fn(&[u8], &mut Buffers) -> Answer;
 
 /// The judge on exchanges of at least `size` raw bytes: long or short ones.
 pub fn judge(size: usize) -> Result<Case, String> {
-    let runs: Rc<[Vec<u8>]> = exchanges::of(size)?.into();
-    compare(size, &runs)?;
+    let runs = exchanges::of(size)?;
+    if let Some(run) = runs.iter().find(|run| run.len() < size) {
+        return Err(format!("judge: {run:02X?} is below {size} bytes"));
+    }
+    beside_second(JUDGE, size, judge_ours, judge_second, runs)
+}
+
+/// A case of the archive and the second implementation, each in one way to
+/// judge.
+pub fn beside_second(
+    name: &'static str,
+    size: usize,
+    ours: Judging,
+    theirs: SecondJudging,
+    runs: Vec<Vec<u8>>,
+) -> Result<Case, String> {
+    let runs: Rc<[Vec<u8>]> = runs.into();
+    compare(name, ours, theirs, &runs)?;
     let calls = runs.len();
     let candidates = vec![
-        candidate(OURS, judge_ours, Rc::clone(&runs)),
-        candidate(SECOND, judge_second, runs),
+        candidate(OURS, ours, Rc::clone(&runs)),
+        candidate(SECOND, theirs, runs),
     ];
     Ok(Case {
-        name: JUDGE,
+        name,
         size,
         calls,
         candidates,
@@ -77,7 +97,7 @@ pub fn judge_ours(run: &[u8], buffers: &mut Buffers) -> sys::Judged {
     }
 }
 
-fn judge_second(run: &[u8], buffers: &mut Buffers) -> Answer {
+pub fn judge_second(run: &[u8], buffers: &mut Buffers) -> Answer {
     let Buffers {
         command,
         reply_1,
@@ -87,19 +107,22 @@ fn judge_second(run: &[u8], buffers: &mut Buffers) -> Answer {
 }
 
 /// Holds both to the same answers and buffers on the very exchanges to be
-/// measured, each of which must be accepted and of the size named.
-fn compare(size: usize, runs: &[Vec<u8>]) -> Result<(), String> {
-    let (mut own, mut theirs) = (Buffers::default(), Buffers::default());
+/// measured, each of which must be accepted.
+fn compare(
+    name: &str,
+    ours: Judging,
+    theirs: SecondJudging,
+    runs: &[Vec<u8>],
+) -> Result<(), String> {
+    let (mut own, mut other) = (Buffers::default(), Buffers::default());
     for run in runs {
-        let answer = judge_ours(run, &mut own);
-        let theirs_answer = judge_second(run, &mut theirs);
-        if theirs_answer != Ok(plain(&answer)?) || own != theirs {
+        let answer = ours(run, &mut own);
+        let other_answer = theirs(run, &mut other);
+        if other_answer != Ok(plain(&answer)?) || own != other {
+            let end = &run[run.len().saturating_sub(200)..];
             return Err(format!(
-                "judge of {run:02X?}: {OURS} {answer:?} {own:?}, {SECOND} {theirs_answer:?} {theirs:?}"
+                "{name} of {end:02X?}: {OURS} {answer:?} {own:?}, {SECOND} {other_answer:?} {other:?}"
             ));
-        }
-        if run.len() < size {
-            return Err(format!("judge: {run:02X?} is below {size} bytes"));
         }
     }
     Ok(())

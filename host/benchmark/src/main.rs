@@ -12,6 +12,7 @@ mod contest;
 mod count;
 mod exchanges;
 mod feed;
+mod idle;
 mod judge;
 mod machine;
 mod measure;

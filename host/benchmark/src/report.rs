@@ -3,6 +3,7 @@
 use crate::bars::Step;
 use crate::case::OURS;
 use crate::contest::CONTEST;
+use crate::idle::{IDLE, SYNS};
 use crate::measure::{Timing, ROUNDS};
 use crate::scan;
 
@@ -80,14 +81,14 @@ pub fn print_table(all: &[Measured]) {
     }
     println!();
     println!(
-        "{:<14}{:>6}  {:<10}{:>14}{:>9}{last}",
+        "{:<13}{:>7}  {:<10}{:>14}{:>9}{last}",
         "case", "size", "candidate", "ns per call", "spread"
     );
     for one in all {
         for (at, timing) in one.timings.iter().enumerate() {
             let count = one.count(at).map(|count| format!("{count:>14.1}"));
             println!(
-                "{:<14}{:>6}  {:<10}{:>14.1}{:>8.1}%{}",
+                "{:<13}{:>7}  {:<10}{:>14.1}{:>8.1}%{}",
                 one.case,
                 one.size,
                 timing.name,
@@ -116,18 +117,22 @@ pub fn print_ratios(ratios: &[Ratio]) {
     }
 }
 
-/// How a contest grows with the keys.
+/// How a contest grows with the keys, and judging with idle time.
 pub fn print_growth(all: &[Measured]) {
-    for one in all.iter().filter(|one| one.case == CONTEST) {
-        let keys = one.size as f64;
+    for one in all {
+        let (each, number) = match one.case {
+            CONTEST => ("key", one.size as f64),
+            IDLE => ("syn", SYNS as f64),
+            _ => continue,
+        };
         for (at, timing) in one.timings.iter().enumerate() {
-            let count = one.count(at).map(|count| count / keys);
+            let count = one.count(at).map(|count| count / number);
             println!(
-                "per-key {} {} {} {:.2} ns{}",
+                "per-{each} {} {} {} {:.2} ns{}",
                 one.case,
                 one.size,
                 timing.name,
-                timing.median() / keys,
+                timing.median() / number,
                 count.map_or(String::new(), |count| format!(", {count:.1} instructions"))
             );
         }

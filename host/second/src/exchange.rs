@@ -13,7 +13,7 @@ pub(crate) const NACK: u8 = 0xFF;
 pub(crate) const MOST_READ: usize = 1 << 31;
 
 /// A judged exchange: its kind, the attempts at command and reply (0 without a
-/// reply), and the raw bytes read, SYN included.
+/// reply), and the raw bytes read, idle time in front and SYN included.
 #[derive(Clone, Copy, Debug, PartialEq, Eq)]
 pub struct Judged {
     pub kind: Kind,
@@ -31,8 +31,9 @@ pub struct Part {
     pub length: usize,
 }
 
-/// Judges a recorded run from its start. At most 2^31 bytes are read. The
-/// buffers are written only when the exchange is accepted.
+/// Judges a recorded run from its start, which may lie in idle time. At most
+/// 2^31 bytes are read. The buffers are written only when the exchange is
+/// accepted.
 pub fn judge(
     run: &[u8],
     command: &mut [u8],
@@ -43,7 +44,7 @@ pub fn judge(
 }
 
 /// Judges the first `most` bytes of a run. Any other number than [`MOST_READ`]
-/// is for tests, since no exchange is that long.
+/// is for tests, since no exchange is that long and idle time seldom.
 pub(crate) fn judge_first(
     most: usize,
     run: &[u8],
@@ -111,21 +112,37 @@ pub fn reply_data(reply_1: &[u8], reply_2: &[u8], attempt: u8) -> Part {
 /// read once more, standing for itself with its own kind; a second FF ends the
 /// exchange."
 fn read_command(run: &[u8], telegram: &mut Telegram) -> Result<(u8, usize), Refusal> {
-    let mut at = 0;
     for attempt in 1..=2 {
-        telegram.read(run, true, at)?;
-        at = telegram.next;
+        match attempt {
+            1 => read_first_command(run, telegram)?,
+            _ => telegram.read(run, true, telegram.next + 1)?,
+        }
+        let at = telegram.next;
         if kind(telegram.bytes[1]) == Kind::Broadcast {
             accept_check(telegram)?;
             return Ok((attempt, at));
         }
-        at += 1;
-        if acknowledged(run, telegram.next)? {
+        if acknowledged(run, at)? {
             accept_check(telegram)?;
-            return Ok((attempt, at));
+            return Ok((attempt, at + 1));
         }
     }
     Err(Refusal::at(COMMAND_NACKED, telegram.next))
+}
+
+/// The first attempt at the command. A SYN that comes before it has two logical
+/// bytes is idle time: it is read afresh from behind that SYN.
+fn read_first_command(run: &[u8], telegram: &mut Telegram) -> Result<(), Refusal> {
+    let mut at = 0;
+    loop {
+        match telegram.read(run, true, at) {
+            Err(Refusal {
+                number: SYN_EARLY,
+                place,
+            }) if telegram.length < 2 => at = place + 1,
+            read => return read,
+        }
+    }
 }
 
 /// Step 3: the attempts at the reply and the position behind the last one's

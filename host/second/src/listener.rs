@@ -109,8 +109,9 @@ impl Listener {
     }
 
     /// A fresh state that uses at most so many bytes. Any other number than 2^31
-    /// is for tests, since no exchange is that long: with fewer it is a state
-    /// that starts late in a recording, its places counted from there.
+    /// is for tests, since no exchange is that long and idle time seldom: with
+    /// fewer it is a state that starts late in a recording, its places counted
+    /// from there.
     pub fn using(most: usize) -> Self {
         Listener {
             most,
@@ -189,7 +190,7 @@ impl Listener {
     /// which logical byte the two are. AA is SYN in either place.
     fn raw_byte(&mut self, field: Field, raw: u8) -> Result<Due, Refusal> {
         if raw == SYN {
-            return self.refuse_here(SYN_EARLY);
+            return self.syn_in_telegram(field);
         }
         if !self.escape {
             self.place = self.used;
@@ -207,6 +208,15 @@ impl Listener {
                 self.logical_byte(field, ESCAPE + raw)
             }
             (true, _) => self.refuse_here(ESCAPE_WRONG),
+        }
+    }
+
+    /// SYN where a byte of a telegram was due. With only SRC or nothing at all
+    /// of the first command it is idle time, and what was heard is forgotten.
+    fn syn_in_telegram(&mut self, field: Field) -> Result<Due, Refusal> {
+        match (field, self.command_attempts) {
+            (Field::Source | Field::Destination, 1) => Ok(self.expect_command()),
+            _ => self.refuse_here(SYN_EARLY),
         }
     }
 
@@ -272,18 +282,25 @@ impl Listener {
     /// forgotten; a reply is not.
     fn begin(&mut self, turn: Turn) -> Due {
         self.turn = turn;
-        self.check = 0;
         match turn {
             Turn::Command => {
-                self.command = Heard::NOTHING;
                 self.command_attempts += 1;
-                Due::Logical(Field::Source)
+                self.expect_command()
             }
             Turn::Reply => {
+                self.check = 0;
                 self.reply_attempts += 1;
                 Due::Logical(Field::Length)
             }
         }
+    }
+
+    /// Forgets what was heard of a command, which is due from its SRC on.
+    fn expect_command(&mut self) -> Due {
+        self.escape = false;
+        self.check = 0;
+        self.command.length = 0;
+        Due::Logical(Field::Source)
     }
 
     /// The telegram in hand.
@@ -401,6 +418,22 @@ mod tests {
             assert_eq!(listener.has_answered(), most == 3);
             assert_eq!(closed(&mut listener).0, Err(refusal));
             assert_eq!(judged(most, &early).0, Err(refusal));
+        }
+    }
+
+    #[test]
+    fn the_limit_may_lie_in_idle_time() {
+        let idle = [0xAA, 0x10, 0xAA, 0xA9, 0xAA, 0x10, 0xA9, 0xAA];
+        let run = [&idle[..], &RUN].concat();
+        for most in 0..run.len() {
+            let mut listener = Listener::using(most);
+            assert_eq!(listener.feed(&run), most.min(36));
+            assert_eq!(listener.has_answered(), most == 36);
+            let answer = closed(&mut listener);
+            assert_eq!(answer, judged(most, &run));
+            if most < 36 {
+                assert_eq!(answer.0, Err(Refusal::at(RUN_ENDED, most)));
+            }
         }
     }
 

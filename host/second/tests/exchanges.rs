@@ -83,10 +83,8 @@ fn escapes_in_source() {
     refused(&[0xA9, 0x00, 0x08], 6, 0);
     refused(&[0xA9, 0x01, 0x08], 6, 0);
     refused(&[0xA9, 0x55], 4, 1);
-    refused(&[0xA9, 0xAA], 5, 1);
     refused(&[0xA9, 0xA9], 4, 1);
     refused(&[0xA9], 3, 1);
-    refused(&[0xAA], 5, 0);
     refused(&[0x08], 6, 0);
     refused(&[], 3, 0);
 }
@@ -96,9 +94,7 @@ fn escapes_in_destination() {
     refused(&[0x10, 0xA9, 0x00], 7, 1);
     refused(&[0x10, 0xA9, 0x01], 7, 1);
     refused(&[0x10, 0xA9, 0x55], 4, 2);
-    refused(&[0x10, 0xA9, 0xAA], 5, 2);
     refused(&[0x10, 0xA9], 3, 2);
-    refused(&[0x10, 0xAA], 5, 1);
     refused(&[0x10], 3, 1);
 }
 

@@ -185,8 +185,20 @@ impl Random {
     }
 }
 
-/// An exchange, at times with a few bytes wrong, or any bytes.
+/// An exchange, at times with a few bytes wrong, or any bytes; at times idle time
+/// goes before it.
 fn recording(random: &mut Random) -> Vec<u8> {
+    let idle: [&[u8]; 5] = [SYN, &[0xA9, 0xAA], &[0x10, 0xAA], &[0xFF, 0xA9, 0xAA], &[]];
+    let pieces = random.pick(&[0, 0, 1, 2, 20]);
+    let mut run: Vec<u8> = (0..pieces)
+        .flat_map(|_| random.pick(&idle))
+        .copied()
+        .collect();
+    run.extend(behind_idle_time(random));
+    run
+}
+
+fn behind_idle_time(random: &mut Random) -> Vec<u8> {
     let mut run = match random.below(6) {
         0 => return (0..random.below(30)).map(|_| random.byte()).collect(),
         1 | 2 => long_exchange(),
@@ -289,8 +301,9 @@ fn a_byte_that_may_not_stand_there_decides_itself() {
     refused_by_last(&[&[0xA9, 0x55]], 4, 1);
     refused_by_last(&[&[0x10, 0xA9, 0xA9]], 4, 2);
     refused_by_last(&[COMMAND, ACK, &[0x01, 0xA9, 0x02]], 4, 10);
-    refused_by_last(&[SYN], 5, 0);
+    refused_by_last(&[&[0x10, 0x08], SYN], 5, 2);
     refused_by_last(&[&[0x10, 0x08, 0xA9], SYN], 5, 3);
+    refused_by_last(&[COMMAND, NACK, SYN], 5, 8);
     refused_by_last(&[COMMAND, SYN], 5, 7);
     refused_by_last(&[COMMAND, ACK, SYN], 5, 8);
     refused_by_last(&[COMMAND, ACK, REPLY, SYN], 5, 11);

@@ -82,14 +82,16 @@ impl Judged {
         self.reply_attempts
     }
 
-    /// The raw bytes read, SYN included. Those behind it were not looked at.
+    /// The raw bytes read, idle time in front and SYN included. Those behind it
+    /// were not looked at.
     pub fn bytes_read(&self) -> usize {
         self.bytes_read
     }
 }
 
-/// Judges a recorded run from its start, with lent buffers: at least
-/// [`COMMAND_ROOM`] bytes for the command and [`REPLY_ROOM`] for each reply.
+/// Judges a recorded run from its start, which may lie in idle time as for
+/// [`judge`], with lent buffers: at least [`COMMAND_ROOM`] bytes for the command
+/// and [`REPLY_ROOM`] for each reply.
 ///
 /// When accepted, `command` starts with the accepted command, SRC through
 /// check byte, and `reply_1` and `reply_2` with the reply attempts that
@@ -242,7 +244,8 @@ impl Exchange {
         reply_data(&self.reply_1, &self.reply_2, self.judged.reply_attempts)
     }
 
-    /// The raw bytes read, SYN included. Those behind it were not looked at.
+    /// The raw bytes read, idle time in front and SYN included. Those behind it
+    /// were not looked at.
     pub fn bytes_read(&self) -> usize {
         self.judged.bytes_read
     }
@@ -257,6 +260,11 @@ fn telegram(buffer: &[u8], head: usize) -> &[u8] {
 
 /// Judges a recorded run from its start. At most 2^31 bytes are read, as if the
 /// run ended there. [`Listener`](super::Listener) judges bytes as they arrive.
+///
+/// The run may start in idle time: as long as nothing of the first command has
+/// come but its source, and perhaps half an escape, SYN drops that, and the
+/// command is looked for behind it. The bytes passed over count in places and in the bytes read, and they
+/// are no attempt.
 ///
 /// Refuses with the first fault that is met, at its place:
 /// [`RunEnded`](crate::Reason::RunEnded) through
@@ -276,6 +284,22 @@ fn telegram(buffer: &[u8], head: usize) -> &[u8] {
 /// run[7] = 0x55;
 /// let refusal = ebus::judge(&run).unwrap_err();
 /// assert_eq!((refusal.reason(), refusal.place()), (Reason::BusError, 7));
+/// # Ok::<(), moortinker::Refusal>(())
+/// ```
+///
+/// A broadcast behind idle time, in which another initiator gave way; and SYN
+/// that comes later, when the destination is there:
+///
+/// ```
+/// use moortinker::{ebus, Reason};
+///
+/// let run = [0xAA, 0xAA, 0x31, 0xAA, 0x10, 0xFE, 0xB5, 0x11, 0x01, 0x01, 0x10, 0xAA];
+/// let exchange = ebus::judge(&run)?;
+/// assert_eq!(exchange.command(), [0x10, 0xFE, 0xB5, 0x11, 0x01, 0x01, 0x10]);
+/// assert_eq!((exchange.command_attempts(), exchange.bytes_read()), (1, 12));
+///
+/// let refusal = ebus::judge(&[0xAA, 0xAA, 0x10, 0x08, 0xAA]).unwrap_err();
+/// assert_eq!((refusal.reason(), refusal.place()), (Reason::SynEarly, 4));
 /// # Ok::<(), moortinker::Refusal>(())
 /// ```
 pub fn judge(run: &[u8]) -> Result<Exchange, Refusal> {

@@ -28,6 +28,25 @@ use crate::{call, sys, Refusal};
 ///
 /// A listener hears one exchange; for the next there is a new one. It may be
 /// cloned at any time, and both go on from there.
+///
+/// It may begin in idle time, which is used and no answer:
+///
+/// ```
+/// use moortinker::ebus::Listener;
+///
+/// let mut listener = Listener::new();
+/// assert_eq!(listener.feed(&[0xAA; 64]), 64);
+/// assert_eq!(listener.feed(&[0xAA, 0x31]), 2);
+/// // Here SYN means that 31 gave way to another initiator.
+/// assert_eq!(listener.feed(&[0xAA, 0x10, 0xFE, 0xB5, 0x11]), 5);
+/// assert!(!listener.has_answered());
+/// assert_eq!(listener.feed(&[0x01, 0x01, 0x10, 0xAA, 0xAA]), 4);
+///
+/// let exchange = listener.close()?;
+/// assert_eq!(exchange.command(), [0x10, 0xFE, 0xB5, 0x11, 0x01, 0x01, 0x10]);
+/// assert_eq!(exchange.bytes_read(), 75);
+/// # Ok::<(), moortinker::Refusal>(())
+/// ```
 #[derive(Clone, Debug)]
 pub struct Listener {
     state: sys::Listening,
@@ -85,7 +104,7 @@ impl Listener {
     /// let mut listener = Listener::new();
     /// listener.feed(&[0x10, 0x08]);
     /// assert!(!listener.has_answered());
-    /// listener.feed(&[0xAA]); // SYN where another byte was due
+    /// listener.feed(&[0xAA]); // SYN behind the destination: no idle time
     /// assert!(listener.has_answered());
     /// ```
     pub fn has_answered(&self) -> bool {

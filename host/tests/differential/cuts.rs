@@ -37,14 +37,24 @@ impl Cuts {
     }
 }
 
-/// A recording that is listened to in runs, at times closed in its middle, and
-/// fed a little further once there is an answer.
+/// A recording that is listened to.
 pub fn listening(session: &mut Session) {
     let recording = inputs::run(&mut session.random);
-    let cuts = Cuts::random(&mut session.random);
+    listen_to(session, &recording);
+}
+
+/// Both sides listen to a recording.
+pub fn listen_to(session: &mut Session, recording: &[u8]) {
     let start = start(&mut session.random);
-    let mut hearing = Hearing::starting_at(session, start);
-    let mut left = &recording[..];
+    let hearing = Hearing::starting_at(session, start);
+    hear_out(session, hearing, recording);
+}
+
+/// Hears a recording in runs, at times closed in its middle, and fed a little
+/// further once there is an answer.
+pub fn hear_out(session: &mut Session, mut hearing: Hearing, recording: &[u8]) {
+    let cuts = Cuts::random(&mut session.random);
+    let mut left = recording;
     while !left.is_empty() {
         let length = cuts.next(&mut session.random, left.len());
         let (run, behind) = left.split_at(length);

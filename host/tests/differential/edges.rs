@@ -4,13 +4,14 @@
 
 use crate::board::{ask, contest, scan, table_valid, Asked, Board};
 use crate::calls;
+use crate::hands::hear_with;
 use crate::hearing::{Hearing, MOST_USED};
 use crate::inputs::{expanded, ROOMS};
 use crate::session::Session;
 use crate::tables::Table;
 
 /// W7.
-const EXCHANGE: [u8; 13] = [
+pub const EXCHANGE: [u8; 13] = [
     0x10, 0x08, 0xB5, 0x11, 0x01, 0x01, 0x89, 0x00, 0x01, 0x2A, 0xB1, 0x00, 0xAA,
 ];
 const COMMAND: &[u8] = EXCHANGE.split_at(7).0;
@@ -100,7 +101,11 @@ fn telegrams(session: &mut Session) {
     }
 }
 
-/// Exchanges that are accepted: each kind, with and without repetitions.
+/// Idle time with every kind of piece that is thrown away.
+const IDLE: &[u8] = &[0xAA, 0xA9, 0xAA, 0x10, 0xAA, 0xFF, 0xA9, 0xAA];
+
+/// Exchanges that are accepted: each kind, with and without repetitions, and
+/// some behind idle time.
 fn good_exchanges() -> Vec<Vec<u8>> {
     let broadcast = &[0x10, 0xFE, 0x07, 0xFE, 0x00][..];
     let initiator = &[0x31, 0x10, 0x07, 0x04, 0x01, 0xAA][..];
@@ -108,7 +113,7 @@ fn good_exchanges() -> Vec<Vec<u8>> {
     let [broadcast, initiator, sixteen] = [broadcast, initiator, sixteen].map(checked);
     let twice = [COMMAND, &[0xFF], COMMAND].concat();
     let replies = [REPLY, &[0xFF], REPLY].concat();
-    let good: [&[&[u8]]; 8] = [
+    let good: [&[&[u8]]; 10] = [
         &[&EXCHANGE],
         &[&twice, &[0x00], &replies, &[0x00, 0xAA]],
         &[&broadcast, &[0xAA]],
@@ -117,16 +122,22 @@ fn good_exchanges() -> Vec<Vec<u8>> {
         &[COMMAND, &[0xFF], &initiator, &[0x00, 0xAA]],
         &[&twice, &[0x00], REPLY, &[0x00, 0xAA]],
         &[&sixteen, &[0x00], &replies, &[0x00, 0xAA]],
+        &[IDLE, &twice, &[0x00], &replies, &[0x00, 0xAA]],
+        &[IDLE, IDLE, &broadcast, &[0xAA]],
     ];
     good.map(<[_]>::concat).to_vec()
 }
 
-/// Exchanges that are refused at the second FF, and one whose LEN is 17.
+/// Exchanges that are refused at the second FF, one whose LEN is 17, idle time
+/// without an exchange, and SYN where the second command is due.
 fn refused_exchanges() -> Vec<Vec<u8>> {
     vec![
         [COMMAND, &[0xFF], COMMAND, &[0xFF, 0xAA]].concat(),
         [COMMAND, &[0x00], REPLY, &[0xFF], REPLY, &[0xFF, 0xAA]].concat(),
         vec![0x10, 0x08, 0x00, 0x00, 0x11],
+        [0xAA; 70].to_vec(),
+        [IDLE, COMMAND, &[0xFF], IDLE].concat(),
+        [IDLE, COMMAND, &[0xFF, 0x10, 0xA9, 0xAA]].concat(),
     ]
 }
 
@@ -154,6 +165,7 @@ fn listening(session: &mut Session) {
     }
     short_at_every_byte(session);
     ending_at_every_byte(session);
+    every_byte_behind_a_hand(session);
 }
 
 /// Both sides listen to these runs, are closed, and are fed and closed again.
@@ -211,6 +223,26 @@ fn ending_at_every_byte(session: &mut Session) {
             for length in [1, 3, run.len()] {
                 let hearing = Hearing::starting_at(session, MOST_USED - left);
                 listen_on(session, hearing, run.chunks(length));
+            }
+        }
+    }
+}
+
+/// Any byte, and an exchange behind it, where up to three bytes of the first
+/// command are in hand, early in a recording and at the end of what is used.
+fn every_byte_behind_a_hand(session: &mut Session) {
+    let telling = [0x10, 0xA9, 0xAA, 0x00, 0x02];
+    let mut hands = vec![vec![]];
+    for length in 0..3 {
+        let longest = hands.iter().filter(|hand| hand.len() == length);
+        let longer = longest.flat_map(|hand| telling.map(|byte| [&hand[..], &[byte]].concat()));
+        hands.extend(longer.collect::<Vec<_>>());
+    }
+    for hand in hands {
+        for byte in 0..=255 {
+            let run = [&[byte][..], &EXCHANGE].concat();
+            for start in [0, MOST_USED - hand.len() - 9] {
+                hear_with(session, start, &hand, &run);
             }
         }
     }

@@ -4,6 +4,8 @@
 use crate::board::{ask, contest, scan, table_valid, Asked, Board};
 use crate::calls;
 use crate::cuts::listening;
+use crate::hands::in_hand;
+use crate::idle;
 use crate::inputs;
 use crate::random::Random;
 use crate::session::Session;
@@ -14,16 +16,19 @@ use crate::tables;
 type Family = (&'static str, u64, fn(&mut Session));
 
 const FAMILIES: &[Family] = &[
-    ("checks", 49, checks),
-    ("escapes", 139, escapes),
-    ("telegrams", 107, telegrams),
-    ("telegram writers", 90, telegram_writers),
-    ("exchanges", 262, exchanges),
-    ("listening", 140, listening),
-    ("states of any bytes", 40, states),
-    ("frames", 123, frames),
-    ("tables", 21, devices),
-    ("sequences", 29, sequences),
+    ("checks", 42, checks),
+    ("escapes", 118, escapes),
+    ("telegrams", 91, telegrams),
+    ("telegram writers", 76, telegram_writers),
+    ("exchanges", 222, exchanges),
+    ("exchanges behind idle time", 80, idle::exchanges),
+    ("listening", 119, listening),
+    ("listening from idle time on", 50, idle::listening),
+    ("bytes in hand", 20, in_hand),
+    ("states of any bytes", 34, states),
+    ("frames", 105, frames),
+    ("tables", 18, devices),
+    ("sequences", 25, sequences),
 ];
 
 /// Runs every family.

@@ -34,16 +34,22 @@ impl Hearing {
     }
 
     /// Begins to listen behind so many bytes of a recording, at most as many as
-    /// are used: the archive's state says so, and the second is left with fewer
-    /// bytes to use.
+    /// are used.
     pub fn starting_at(session: &mut Session, start: usize) -> Self {
-        // SAFETY: no pointer is handed over.
-        let fresh = unsafe { sys::moor_listen() };
+        Hearing::holding(session, start, &[])
+    }
+
+    /// Goes on where some bytes of a first command, which starts behind so many
+    /// bytes of a recording, are in hand: the archive's state says so, and the
+    /// second hears them first and is left with fewer bytes to use.
+    pub fn holding(session: &mut Session, start: usize, hand: &[u8]) -> Self {
+        let mut second = Listener::using(MOST_USED - start);
+        second.feed(hand);
         let hearing = Hearing {
-            archive: sys::Listening { start, ..fresh },
-            second: Listener::using(MOST_USED - start),
+            archive: state_holding(start, hand),
+            second,
             start,
-            fed: Vec::new(),
+            fed: hand.to_vec(),
             closed: false,
         };
         session.settle(Function::Listen, 0, Ok(()), String::new);
@@ -125,9 +131,20 @@ impl Hearing {
     }
 }
 
+/// A state to which the first command, which starts here, is due, with these
+/// bytes of it in hand.
+pub fn state_holding(start: usize, hand: &[u8]) -> sys::Listening {
+    // SAFETY: no pointer is handed over.
+    let mut state = unsafe { sys::moor_listen() };
+    state.start = start;
+    state.held = hand.len() as u8;
+    state.raw[..hand.len()].copy_from_slice(hand);
+    state
+}
+
 /// An answer to an exchange that starts here in a recording: its place and the
 /// bytes read count from the recording's start.
-fn counted_from(start: usize, mut judged: sys::Judged) -> sys::Judged {
+pub fn counted_from(start: usize, mut judged: sys::Judged) -> sys::Judged {
     match judged.number {
         sys::MOOR_ACCEPTED => judged.read += start,
         sys::MOOR_OUTPUT_SHORT => {}

@@ -20,12 +20,13 @@ const PAGE: usize = 4096;
 /// The bytes between the two closed pages.
 const ROOM: usize = 8 * PAGE;
 
-const PROT_NONE: c_int = 0;
-const PROT_READ_WRITE: c_int = 3;
-const MAP_PRIVATE_ANONYMOUS: c_int = 0x22;
+pub const PROT_NONE: c_int = 0;
+pub const PROT_READ_WRITE: c_int = 3;
+pub const MAP_PRIVATE: c_int = 0x02;
+pub const MAP_PRIVATE_ANONYMOUS: c_int = 0x22;
 
 extern "C" {
-    fn mmap(
+    pub fn mmap(
         address: *mut c_void,
         length: usize,
         protection: c_int,

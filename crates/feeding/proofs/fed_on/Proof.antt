@@ -25,7 +25,7 @@ ebus-tables-requires : tie.Need-ebus-tables-requires Inv-loop μ-loop
 ebus-tables-requires c κs = search needs
 
 loop-holds : tie.Need-loop-holds Inv-loop μ-loop
-loop-holds c = (turns-start (c .before .before .before .before .args .first) (c .before .before .before .before .args .kept .now) (c .before .before .before .before .args .run .now) (c .before .before .before .before .args .hand .now) (c .before .before .before .before .pre .1) (c .before .before .before .before .pre .3), c .before .before .before .before .pre .5)
+loop-holds c = (turns-start (c .before .before .before .before .args .first) (c .before .before .before .before .args .kept .now) (c .before .before .before .before .args .run .now) (c .before .before .before .before .args .hand .now) (c .before .before .before .before .pre .1) (c .before .before .before .before .pre .3) (c .before .before .before .before .pre .6), c .before .before .before .before .pre .5)
 
 returns : tie.Need-returns Inv-loop μ-loop
 returns c = ap (λ (x : List ℕ). record { state = stateWith (c .before .before .before .loop .m) 0 x (c .before .before .before .loop .kept); used = c .before .before .before .loop .i }) (c .before .before .before .loop .inv .1) ∙ turns-answered _ _ _ _ _ _ _ (c .before .before .before .loop .inv .0) (c .before .before .loop-test .taken) (c .if1 .taken)

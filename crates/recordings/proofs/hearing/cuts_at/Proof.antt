@@ -6,10 +6,10 @@ use Rattle.recordings.proofs.hearing.cuts_at.Statement.{statement}
 use Rattle.recordings.proofs.hearing.cuts_at.Tie as tie
 
 abbrev Inv-loop : tie.InvT-loop
-Inv-loop run at t₀ more₀ t more = more ≤ 50
+Inv-loop run at t₀ more₀ t more = more ≤ 59
 
 abbrev μ-loop : tie.MeasureT-loop
-μ-loop run at t₀ more₀ t more = 50 - more
+μ-loop run at t₀ more₀ t more = 59 - more
 
 loop-holds : tie.Need-loop-holds Inv-loop μ-loop
 loop-holds c = search needs

@@ -6,10 +6,10 @@ use Rattle.recordings.proofs.hearing.every_prefix.Statement.{statement}
 use Rattle.recordings.proofs.hearing.every_prefix.Tie as tie
 
 abbrev Inv-loop : tie.InvT-loop
-Inv-loop run t₀ n₀ t n = n ≤ 50
+Inv-loop run t₀ n₀ t n = n ≤ 59
 
 abbrev μ-loop : tie.MeasureT-loop
-μ-loop run t₀ n₀ t n = 50 - n
+μ-loop run t₀ n₀ t n = 59 - n
 
 recording-requires : tie.Need-recording-requires Inv-loop μ-loop
 recording-requires c κs = search needs

@@ -6,10 +6,10 @@ use Rattle.recordings.proofs.hearing.every_two_cuts.Statement.{statemen
 use Rattle.recordings.proofs.hearing.every_two_cuts.Tie as tie
 
 abbrev Inv-loop : tie.InvT-loop
-Inv-loop run t₀ at₀ t at = at ≤ 50
+Inv-loop run t₀ at₀ t at = at ≤ 59
 
 abbrev μ-loop : tie.MeasureT-loop
-μ-loop run t₀ at₀ t at = 50 - at
+μ-loop run t₀ at₀ t at = 59 - at
 
 recording-requires : tie.Need-recording-requires Inv-loop μ-loop
 recording-requires c κs = search needs

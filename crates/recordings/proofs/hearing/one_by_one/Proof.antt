@@ -6,10 +6,10 @@ use Rattle.recordings.proofs.hearing.one_by_one.Statement.{statement}
 use Rattle.recordings.proofs.hearing.one_by_one.Tie as tie
 
 abbrev Inv-loop : tie.InvT-loop
-Inv-loop run state₀ t₀ i₀ state t i = i ≤ 49
+Inv-loop run state₀ t₀ i₀ state t i = i ≤ 58
 
 abbrev μ-loop : tie.MeasureT-loop
-μ-loop run state₀ t₀ i₀ state t i = 49 - i
+μ-loop run state₀ t₀ i₀ state t i = 58 - i
 
 recording-requires : tie.Need-recording-requires Inv-loop μ-loop
 recording-requires c κs = search needs

@@ -1,0 +1,3 @@
+-- Laws of a recording's beginning that belong to no one function.
+pub mod Pieces
+pub mod Begun
