@@ -83,6 +83,7 @@ extern "C" {
 #define MOOR_SUBCOMMAND_WRONG  15 /* a subcommand that this call does not take */
 #define MOOR_FRAME_CHECK       16 /* Modbus check wrong; place: its first byte */
 #define MOOR_SERIAL_OVER       17 /* serial 2^28 or more; place: its first byte */
+#define MOOR_QUEUE_FULL        18 /* the event queue of a device is full; place: 0 */
 
 /* ---- Other constants ---------------------------------------------------- */
 

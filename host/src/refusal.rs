@@ -104,6 +104,8 @@ reasons! {
         FrameCheck = 16, "the frame's check is wrong";
         /// A serial of 2^28 or more.
         SerialOver = 17, "the serial is 2^28 or more";
+        /// The event queue of a device is full.
+        QueueFull = 18, "the event queue is full";
     }
 }
 

@@ -66,6 +66,8 @@ pub const MOOR_SUBCOMMAND_WRONG: u8 = 15;
 pub const MOOR_FRAME_CHECK: u8 = 16;
 /// A serial of 2^28 or more.
 pub const MOOR_SERIAL_OVER: u8 = 17;
+/// The event queue of a device is full.
+pub const MOOR_QUEUE_FULL: u8 = 18;
 
 /// The destination FE.
 pub const MOOR_BROADCAST: u8 = 1;

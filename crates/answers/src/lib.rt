@@ -34,8 +34,8 @@ pub enum AnswerRead {
 
 // ---- reading
 
-// How many bytes the answer reader passes over: the FF that the input begins with.
-fn skipped(input: &[u8]) -> usize
+// How many bytes a reader of answers passes over: the FF that the input begins with.
+pub fn skipped(input: &[u8]) -> usize
     ensures { λ r. ⌜ r ≡ skipped (now (input .entry)) ⌝ }
 {
     let mut i = 0;

@@ -4,7 +4,7 @@
 use mathlib.Core.Path.{_≡_, refl, sym, ap, ap₂, _∙_}
 use mathlib.Core.Bool.{Bool, true, false, _&&_, _||_}
 use mathlib.Core.List.{List, [], _∷_}
-use Prim.Native.Nat.{ℕ, suc, _+_, _-_, _≤_, _<_}
+use Prim.Native.Nat.{ℕ, suc, _+_, _-_, _%_, _≤_, _<_}
 use native.Mathlib.Nat.{add-zero, add-assoc, add-sub-cancel-left}
 use native.Mathlib.Omega.{arith}
 use lib.Dec.{eqb}
@@ -12,56 +12,57 @@ use lib.ListN.{length, getD, take, drop, length-drop, drop-of-length-le}
 use lib.Seq.{length-take-le, drop-drop}
 use borrow.Author.Tests.{eq-eqb, ne-eqb}
 use Rattle.lists.specs.Tests.{same}
+use Rattle.crc.specs.Check.{modbusCheck}
 use Rattle.lists.proofs.Filling.{drop-next}
 use Rattle.refusal.specs.Number.{frameLength, frameHead, subcommandWrong, frameCheck, at-place}
 use Rattle.refusal.specs.declared.Refusal.{Refusal}
-use Rattle.framing.specs.Framing.{FrameRead, framed, wrong, passed, bodyOf, checkOf, judged, framedAt}
-use Rattle.framing.specs.Layout.{broadcast, extended, lengthFor, checkBytes, scanFraming}
+use Rattle.framing.specs.Framing.{Framing, FrameRead, framed, wrong, passed, bodyOf, checkOf, judged, framedAt}
+use Rattle.framing.specs.Layout.{broadcast, extended, lengthFor, checkBytes, closed, scanFraming}
 use Rattle.framing.specs.Head.{headOf}
 use Rattle.framing.specs.declared.Head.the-variants.{Framed, Wrong}
 use Rattle.framing.proofs.Framing.{short-refused, long-judged}
 
 -- what stands between the subcommand and the check
-abbrev carriedFrom : List ℕ → ℕ → List ℕ
+abbrev pub carriedFrom : List ℕ → ℕ → List ℕ
 carriedFrom input at = take (length input - at - 5) (drop (at + 3) input)
+
+module _ (input : List ℕ) (at : ℕ) (long : 5 ≤ length input - at) where
+  pub carried-length : length (carriedFrom input at) ≡ length input - at - 5
+  carried-length = length-take-le (length input - at - 5) (drop (at + 3) input) (omega (arith, length-drop (at + 3) input))
+
+  begins : drop at input ≡ getD input at 0 ∷ getD input (at + 1) 0 ∷ getD input (at + 2) 0 ∷ drop (at + 3) input
+  begins =
+      drop-next input at (omega arith)
+      ∙ ap (λ (l : List ℕ). getD input at 0 ∷ l)
+      (drop-next input (at + 1) (omega arith)
+      ∙ ap (λ (n : ℕ). getD input (at + 1) 0 ∷ drop n input) (add-assoc at 1 1)
+      ∙ ap (λ (l : List ℕ). getD input (at + 1) 0 ∷ l)
+      (drop-next input (at + 2) (omega arith) ∙ ap (λ (n : ℕ). getD input (at + 2) 0 ∷ drop n input) (add-assoc at 2 1)))
+
+  pub bytes-are : bodyOf (drop at input) ≡ getD input at 0 ∷ getD input (at + 1) 0 ∷ getD input (at + 2) 0 ∷ carriedFrom input at
+  bytes-are =
+      let size : length (drop at input) - 2 ≡ suc (suc (suc (length input - at - 5))) = omega (arith, length-drop at input) in
+      ap₂ take size begins
+
+  -- a rest that is long enough, taken apart
+  pub opened : (F : Framing) → F .shortest ≤ length input - at
+      → framedAt F input at ≡ judged F at (getD input at 0 ∷ getD input (at + 1) 0 ∷ getD input (at + 2) 0 ∷ carriedFrom input at) (checkOf (drop at input))
+  opened F enough = long-judged F input at enough ∙ ap (λ (bytes : List ℕ). judged F at bytes (checkOf (drop at input))) bytes-are
 
 module _ (one other : ℕ) (input : List ℕ) (at : ℕ) where
   pub head-short : length input - at < 5 → headOf (framedAt (scanFraming one other) input at) ≡ Wrong (at-place frameLength 0)
   head-short short = ap headOf (short-refused (scanFraming one other) input at short)
 
   module _ (long : 5 ≤ length input - at) where
-    carried-length : length (carriedFrom input at) ≡ length input - at - 5
-    carried-length = length-take-le (length input - at - 5) (drop (at + 3) input) (omega (arith, length-drop (at + 3) input))
-
-    begins : drop at input ≡ getD input at 0 ∷ getD input (at + 1) 0 ∷ getD input (at + 2) 0 ∷ drop (at + 3) input
-    begins =
-        drop-next input at (omega arith)
-        ∙ ap (λ (l : List ℕ). getD input at 0 ∷ l)
-        (drop-next input (at + 1) (omega arith)
-        ∙ ap (λ (n : ℕ). getD input (at + 1) 0 ∷ drop n input) (add-assoc at 1 1)
-        ∙ ap (λ (l : List ℕ). getD input (at + 1) 0 ∷ l)
-        (drop-next input (at + 2) (omega arith) ∙ ap (λ (n : ℕ). getD input (at + 2) 0 ∷ drop n input) (add-assoc at 2 1)))
-
-    bytes-are : bodyOf (drop at input) ≡ getD input at 0 ∷ getD input (at + 1) 0 ∷ getD input (at + 2) 0 ∷ carriedFrom input at
-    bytes-are =
-        let size : length (drop at input) - 2 ≡ suc (suc (suc (length input - at - 5))) = omega (arith, length-drop at input) in
-        ap₂ take size begins
-
-    opened : framedAt (scanFraming one other) input at
-        ≡ judged (scanFraming one other) at (getD input at 0 ∷ getD input (at + 1) 0 ∷ getD input (at + 2) 0 ∷ carriedFrom input at) (checkOf (drop at input))
-    opened =
-        long-judged (scanFraming one other) input at long
-        ∙ ap (λ (bytes : List ℕ). judged (scanFraming one other) at bytes (checkOf (drop at input))) bytes-are
-
     pub head-first : (getD input at 0 ≡ broadcast → ⊥) → headOf (framedAt (scanFraming one other) input at) ≡ Wrong (at-place frameHead at)
     unfolding judged passed
-    head-first other-byte = ap headOf opened ∙ simp (ne-eqb broadcast (getD input at 0) (λ e. other-byte (sym e)), add-zero at)
+    head-first other-byte = ap headOf (opened input at long (scanFraming one other) long) ∙ simp (ne-eqb broadcast (getD input at 0) (λ e. other-byte (sym e)), add-zero at)
 
     module _ (first : getD input at 0 ≡ broadcast) where
       pub head-second : (getD input (at + 1) 0 ≡ extended → ⊥) → headOf (framedAt (scanFraming one other) input at) ≡ Wrong (at-place frameHead (at + 1))
       unfolding judged passed
       head-second other-byte =
-          ap headOf opened
+          ap headOf (opened input at long (scanFraming one other) long)
           ∙ simp (eq-eqb broadcast (getD input at 0) (sym first), ne-eqb extended (getD input (at + 1) 0) (λ e. other-byte (sym e)))
 
       module _ (second : getD input (at + 1) 0 ≡ extended) where
@@ -69,7 +70,7 @@ module _ (one other : ℕ) (input : List ℕ) (at : ℕ) where
             → headOf (framedAt (scanFraming one other) input at) ≡ Wrong (at-place subcommandWrong (at + 2))
         unfolding judged passed
         head-third refuses =
-            ap headOf opened
+            ap headOf (opened input at long (scanFraming one other) long)
             ∙ simp (eq-eqb broadcast (getD input at 0) (sym first), eq-eqb extended (getD input (at + 1) 0) (sym second), refuses)
 
         module _ (takes : (eqb (getD input (at + 2) 0) one || eqb (getD input (at + 2) 0) other) ≡ true) where
@@ -77,30 +78,30 @@ module _ (one other : ℕ) (input : List ℕ) (at : ℕ) where
               → headOf (framedAt (scanFraming one other) input at) ≡ Wrong (at-place frameLength 0)
           unfolding judged passed
           head-length other-length =
-              ap headOf opened
+              ap headOf (opened input at long (scanFraming one other) long)
               ∙ simp (
                 eq-eqb broadcast (getD input at 0) (sym first),
                 eq-eqb extended (getD input (at + 1) 0) (sym second),
                 takes,
-                ne-eqb (length (carriedFrom input at) + 5) (lengthFor (getD input (at + 2) 0)) (λ e. other-length (omega (arith, carried-length, e))),
+                ne-eqb (length (carriedFrom input at) + 5) (lengthFor (getD input (at + 2) 0)) (λ e. other-length (omega (arith, carried-length input at long, e))),
               )
 
           module _ (fills : length input - at ≡ lengthFor (getD input (at + 2) 0)) where
             fits : eqb (length (carriedFrom input at) + 5) (lengthFor (getD input (at + 2) 0)) ≡ true
-            fits = eq-eqb (length (carriedFrom input at) + 5) (lengthFor (getD input (at + 2) 0)) (omega (arith, carried-length))
+            fits = eq-eqb (length (carriedFrom input at) + 5) (lengthFor (getD input (at + 2) 0)) (omega (arith, carried-length input at long))
 
             pub head-check : same (checkOf (drop at input)) (checkBytes (bodyOf (drop at input))) ≡ false
                 → headOf (framedAt (scanFraming one other) input at) ≡ Wrong (at-place frameCheck (at + (length input - at - 2)))
             unfolding judged passed
             head-check fails =
-                let size : suc (suc (suc (length (carriedFrom input at)))) ≡ length input - at - 2 = omega (arith, carried-length) in
-                ap headOf opened
+                let size : suc (suc (suc (length (carriedFrom input at)))) ≡ length input - at - 2 = omega (arith, carried-length input at long) in
+                ap headOf (opened input at long (scanFraming one other) long)
                 ∙ (simp (
                   eq-eqb broadcast (getD input at 0) (sym first),
                   eq-eqb extended (getD input (at + 1) 0) (sym second),
                   takes,
                   fits,
-                  sym (ap (λ (bytes : List ℕ). same (checkOf (drop at input)) (checkBytes bytes)) bytes-are) ∙ fails,
+                  sym (ap (λ (bytes : List ℕ). same (checkOf (drop at input)) (checkBytes bytes)) (bytes-are input at long)) ∙ fails,
                 ))
                 ∙ ap (λ (n : ℕ). Wrong (at-place frameCheck (at + n))) size
 
@@ -108,13 +109,13 @@ module _ (one other : ℕ) (input : List ℕ) (at : ℕ) where
                 → headOf (framedAt (scanFraming one other) input at) ≡ Framed (getD input (at + 2) 0)
             unfolding judged passed
             head-framed right =
-                ap headOf opened
+                ap headOf (opened input at long (scanFraming one other) long)
                 ∙ simp (
                   eq-eqb broadcast (getD input at 0) (sym first),
                   eq-eqb extended (getD input (at + 1) 0) (sym second),
                   takes,
                   fits,
-                  sym (ap (λ (bytes : List ℕ). same (checkOf (drop at input)) (checkBytes bytes)) bytes-are) ∙ right,
+                  sym (ap (λ (bytes : List ℕ). same (checkOf (drop at input)) (checkBytes bytes)) (bytes-are input at long)) ∙ right,
                 )
 
 -- ---- the check, byte by byte
@@ -149,6 +150,17 @@ passes-is input at =
     ap₂ (λ (check bytes : List ℕ). same check (checkBytes bytes))
     (drop-drop (length (drop at input) - 2) at input ∙ ap (λ (n : ℕ). drop (at + n) input) size)
     (ap (λ (n : ℕ). take n (drop at input)) (size ∙ sym (add-sub-cancel-left at (length input - at - 2))))
+
+-- fewer than two bytes end with no check
+pub closed-short : (bytes : List ℕ) → length bytes < 2 → closed bytes ≡ false
+unfolding same checkBytes closed
+closed-short [] short = refl
+closed-short (x ∷ []) short = by (eqb x (modbusCheck [] % 256))
+  where
+    by : (b : Bool) → (b && false) ≡ false
+    by true = refl
+    by false = refl
+closed-short (x ∷ y ∷ more) short = let z : ⊥ = omega arith in absurd z
 
 -- ---- what was read, where the head check keeps only the subcommand
 

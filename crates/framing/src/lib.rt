@@ -21,7 +21,7 @@ ghost use Rattle.lists.specs.Tests.{same};
 ghost use Rattle.refusal.specs.Number.{outputShort, at-place};
 ghost use Rattle.refusal.specs.Output.{bytes, fitting, Wrote};
 ghost use Rattle.framing.specs.Framing.{framedAt};
-ghost use Rattle.framing.specs.Layout.{broadcast, extended, shortest, lengthFor, checkBytes, scanFraming};
+ghost use Rattle.framing.specs.Layout.{broadcast, extended, shortest, lengthFor, checkBytes, closed, scanFraming};
 ghost use Rattle.framing.specs.Head.{headOf};
 
 // The broadcast address, and the command for extended functions.
@@ -38,8 +38,14 @@ pub const FOUND: u8 = 0x03;
 
 pub const END: u8 = 0x04;
 
+// The subcommand of a request for events.
+pub const POLL: u8 = 0x10;
+
 // How long the frame of a device found is.
 pub const FOUND_LENGTH: usize = 10;
+
+// How long a request for events is.
+pub const POLL_LENGTH: usize = 9;
 
 // How long the frame that ends a scan is, and every other that carries nothing: none is shorter.
 pub const END_LENGTH: usize = 5;
@@ -76,6 +82,21 @@ fn check_passes(input: &[u8], at: usize, place: usize) -> bool
     input[place + 1] == check[1]
 }
 
+// Whether the input from this position on ends with the check of what stands there before it.
+pub fn closed_at(input: &[u8], at: usize) -> bool
+    ensures { λ r. ⌜ r ≡ closed (drop at (now (input .entry))) ⌝ }
+{
+    if input.len() < at {
+        return false;
+    }
+    let left = input.len() - at;
+    if left < 2 {
+        return false;
+    }
+    let body = left - 2;
+    check_passes(input, at, at + body)
+}
+
 // ---- reading
 
 // A refusal of the head check.
@@ -100,10 +121,12 @@ fn length_for(subcommand: u8) -> usize
     ensures { λ r. ⌜ r ≡ lengthFor subcommand ⌝ }
 {
     if subcommand == FOUND {
-        FOUND_LENGTH
-    } else {
-        END_LENGTH
+        return FOUND_LENGTH;
     }
+    if subcommand == POLL {
+        return POLL_LENGTH;
+    }
+    END_LENGTH
 }
 
 // The head check: the subcommand of a frame at this position that fills the rest of the input, where

@@ -27,6 +27,7 @@ pub(crate) fn name(page: Page, number: u8) -> Page {
 15 subcommand or letter not taken
 16 wrong check
 17 serial too large
+18 queue full
 ",
         number,
         no_number(),

@@ -54,6 +54,9 @@ frameCheck = 16
 abbrev pub serialOver : ℕ
 serialOver = 17
 
+abbrev pub queueFull : ℕ
+queueFull = 18
+
 -- a number at a place
 abbrev pub at-place : ℕ → ℕ → Refusal
 at-place number place = record { number = number; place = place }

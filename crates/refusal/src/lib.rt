@@ -37,6 +37,8 @@ pub const SUBCOMMAND_WRONG: u8 = 15;
 pub const FRAME_CHECK: u8 = 16;
 // A serial has more than 28 bits.
 pub const SERIAL_OVER: u8 = 17;
+// A device's event queue is full.
+pub const QUEUE_FULL: u8 = 18;
 
 // A refusal: the number, and the offset of the raw byte named, 0 where none is named.
 pub struct Refusal {
