@@ -4,7 +4,7 @@ use mathlib.Core.Path.{_≡_, refl, sym, ap, _∙_, subst}
 use mathlib.Core.Bool.{Bool, true, false}
 use mathlib.Core.List.{List, [], _∷_, _++_, append-nil}
 use mathlib.Core.Logic.{⊎-elim}
-use Prim.Native.Nat.{ℕ, _≤_, _<_, max}
+use Prim.Native.Nat.{ℕ, _+_, _≤_, _<_, max}
 use native.Mathlib.Omega.{arith}
 use lib.ListN.{length}
 use Rattle.refusal.specs.Number.{runEnded}
@@ -22,7 +22,7 @@ use Rattle.attempts.specs.Looks.{lookedAt}
 use Rattle.attempts.proofs.LongerRun.{OtherAttempt, attempt-stays}
 use Rattle.listening.specs.declared.Listening.{Listening}
 use Rattle.listening.specs.Listening.{handRoom, isCommand}
-use Rattle.feeding.specs.Inner.{stepBy, stepOn}
+use Rattle.feeding.specs.Inner.{stepBy, stepOn, unlessThrown, triesOn}
 use Rattle.listening.proofs.Undecided.{near, ended-looks, ended-short}
 
 -- what the attempt says of itself is the attempt by the eBUS check
@@ -54,7 +54,11 @@ undecided-short command bytes why e number =
     (λ (h : (attemptAt command (bytes ++ []) 0 ≡ attemptAt command bytes 0) × OtherAttempt (attemptAt command bytes 0)). absurd (subst OtherAttempt e (h .1) number))
     (attempt-stays bytes [] command 0)
 
-pub step-is : (s : Listening) (bytes : List ℕ) (least n next : ℕ) (a : Attempt) → n ≡ max least next → next ≡ lookedAt (isCommand s) bytes 0 → a ≡ attemptAt (isCommand s) bytes 0
-    → stepBy s bytes n a ≡ stepOn s bytes least
-step-is s bytes least n next a e looked is =
-    ap (λ (k : ℕ). stepBy s bytes k a) (e ∙ ap (max least) looked) ∙ ap (stepBy s bytes (max least (lookedAt (isCommand s) bytes 0))) is
+-- the attempt as it was made, unless bytes are thrown away
+pub tries-is : (s : Listening) (bytes : List ℕ) (held n next : ℕ) (a : Attempt) → n ≡ max (held + 1) next → next ≡ lookedAt (isCommand s) bytes 0 → a ≡ attemptAt (isCommand s) bytes 0
+    → unlessThrown s bytes held (stepBy s bytes n a) ≡ triesOn s bytes held
+tries-is s bytes held n next a e looked is =
+    let least = held + 1 in
+    let step : stepBy s bytes n a ≡ stepOn s bytes least =
+    ap (λ (k : ℕ). stepBy s bytes k a) (e ∙ ap (max least) looked) ∙ ap (stepBy s bytes (max least (lookedAt (isCommand s) bytes 0))) is in
+    ap (unlessThrown s bytes held) step

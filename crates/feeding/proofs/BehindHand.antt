@@ -2,35 +2,25 @@
 -- Assumes nothing.
 use mathlib.Core.Path.{_≡_, refl, sym, ap, _∙_, subst}
 use mathlib.Core.Bool.{Bool, true, false}
-use mathlib.Core.List.{List, [], _∷_, _++_}
+use mathlib.Core.List.{List, [], _∷_, _++_, append-nil}
 use mathlib.Core.Logic.{⊎-elim}
-use Prim.Native.Nat.{ℕ, _+_, _-_, _≤_, _<_, min, max}
+use Prim.Native.Nat.{ℕ, _+_, _-_, _≤_, _<_, min}
 use native.Mathlib.Omega.{arith}
 use lib.Dec.{eqb, ltb}
-use lib.ListN.{length, getD, take, drop, length-append, length-take, length-drop}
+use lib.ListN.{length, getD, take, drop, length-append, length-take, length-drop, take-append-drop}
 use lib.Seq.{take-all}
 use borrow.Author.Tests.{lt-ltb, le-ltb, eq-eqb, ne-eqb}
 use Rattle.lists.specs.Choice.{pick}
-use Rattle.lists.specs.Starting.{starting}
-use Rattle.lists.proofs.Cases.{pick-cases, le-or-lt}
-use Rattle.refusal.specs.Number.{runEnded}
-use Rattle.escapes.specs.Escape.{syn}
-use Rattle.addresses.specs.declared.ExchangeKind.{ExchangeKind}
-use Rattle.addresses.specs.declared.ExchangeKind.the-variants.{Broadcast, InitiatorInitiator, InitiatorTarget}
-use Rattle.addresses.specs.Address.{kindOf}
-use Rattle.telegram.specs.Telegram.{destinationOf}
-use Rattle.attempts.specs.Attempt.{Attempt, taken, nacked, failed, attemptAt}
-use Rattle.attempts.specs.Looks.{lookedAt}
+use Rattle.lists.proofs.Cases.{le-or-lt}
 use Rattle.exchange.specs.Exchange.{limit}
 use Rattle.listening.specs.declared.Listening.{Listening}
 use Rattle.listening.specs.declared.Fed.{Fed}
-use Rattle.listening.specs.Listening.{firstCommand, firstReply, synDue, nothingDue, handRoom, inHand, inHandNow, dueBehind, isCommand, onTaken, onNacked, onSyn, listened}
+use Rattle.listening.specs.Listening.{synDue, nothingDue, handRoom, inHand, inHandNow, onSyn, listened}
 use Rattle.listening.proofs.Undecided.{in-hand-now}
 use Rattle.feeding.specs.declared.marks.Marks.{Marks}
 use Rattle.feeding.specs.declared.attempt.Step.{Step}
-use Rattle.feeding.specs.Inner.{stateOf, fedOf, Ends, stepBy, stepOn, joinedRoom, joined, turnOn, Turned}
-use Rattle.feeding.proofs.AtOnce.{NoRestart}
-use Rattle.feeding.proofs.Turning.{counting, turned-alone, turned-joined, turned-syn}
+use Rattle.feeding.specs.Inner.{stateOf, fedOf, Ends, triesOn, turnOn, joinedRoom, joined, Turned}
+use Rattle.feeding.proofs.Turning.{counting, turned-tries, turned-syn}
 use Rattle.feeding.proofs.Feeding.{Feeding, feeding-more, feeding-ends, feeding-answered}
 
 -- ---- what a turn looks at
@@ -60,61 +50,33 @@ looked-all (h ∷ hs) run short =
 
 -- ---- a turn
 
-pub by-due : (s : Listening) (c : List ℕ) (least : ℕ) (t : Bool) → ltb (s .due) synDue ≡ t → turnOn s c least ≡ pick t (stepOn s c least) (record { state = onSyn s (getD c 0 0); used = 1 })
-by-due s c least t e = ap (λ (b : Bool). pick b (stepOn s c least) (record { state = onSyn s (getD c 0 0); used = 1 })) e
+pub by-due : (s : Listening) (c : List ℕ) (held : ℕ) (t : Bool) → ltb (s .due) synDue ≡ t → turnOn s c held ≡ pick t (triesOn s c held) (record { state = onSyn s (getD c 0 0); used = 1 })
+by-due s c held t e = ap (λ (b : Bool). pick b (triesOn s c held) (record { state = onSyn s (getD c 0 0); used = 1 })) e
 
 turned-by : (m : Marks) (kept hand run : List ℕ) → length hand ≤ handRoom → 0 < length run → m .due < nothingDue → ((length hand ≡ 0 → ⊥) → m .due < synDue)
-    → NoRestart (stateOf m kept) hand run → (f : Fed) → f ≡ turnOn (stateOf m kept) (looked hand run) (length hand + 1)
+    → (f : Fed) → f ≡ turnOn (stateOf m kept) (looked hand run) (length hand)
     → (length hand < f .used) × Turned (inHandNow (stateOf m kept) hand) run (counting f (f .used - length hand))
-turned-by m kept [] run within some undone tries no-restart f is =
+turned-by m kept [] run within some undone tries f is =
     let s = stateOf m kept in
-    let t : Turned s run f =
     ⊎-elim
-    (λ (h : synDue ≤ m .due). subst (Turned s run) (sym (is ∙ by-due s run 1 false (le-ltb (m .due) synDue h))) (turned-syn s h undone run some))
-    (λ (h : m .due < synDue). turned-alone s h refl run some no-restart f (is ∙ by-due s run 1 true (lt-ltb (m .due) synDue h)))
-    (le-or-lt synDue (m .due)) in
+    (λ (h : synDue ≤ m .due).
+    let t : Turned s run f = subst (Turned s run) (sym (is ∙ by-due s run 0 false (le-ltb (m .due) synDue h))) (turned-syn s h undone run some) in
     let all : f .used ≡ f .used - 0 = omega arith in
-    (t .some, subst (λ (k : ℕ). Turned s run (counting f k)) all t)
-turned-by m kept (h ∷ hs) run within some undone tries no-restart f is =
+    (t .some, subst (λ (k : ℕ). Turned s run (counting f k)) all t))
+    (λ (h : m .due < synDue).
+    subst (λ (x : List ℕ). (0 < f .used) × Turned s x (counting f (f .used - 0))) (append-nil run)
+    (turned-tries s h [] run [] some f (is ∙ by-due s run 0 true (lt-ltb (m .due) synDue h))))
+    (le-or-lt synDue (m .due))
+turned-by m kept (h ∷ hs) run within some undone tries f is =
     let s = stateOf m kept in
     let hand = h ∷ hs in
-    let there : length hand ≡ 0 → ⊥ = λ e. omega arith in
+    let n = length hand in
+    let r = take (joinedRoom - n) run in
+    let more : 0 < length r = omega (arith, length-take (joinedRoom - n) run) in
+    let there : n ≡ 0 → ⊥ = λ e. omega arith in
     let due = tries there in
-    turned-joined s due hand run within some no-restart f (is ∙ by-due s (looked hand run) (length hand + 1) true (lt-ltb (m .due) synDue due))
-
-abbrev Later : Listening → Type 0
-Later s = s .due ≡ firstCommand → ⊥
-
-due-later : (kind : ExchangeKind) → dueBehind kind ≡ firstCommand → ⊥
-due-later Broadcast e = omega (arith, e)
-due-later InitiatorInitiator e = omega (arith, e)
-due-later InitiatorTarget e = omega (arith, e)
-
-taken-due : (s : Listening) (n : ℕ) (t : List ℕ) → Later (onTaken s n t)
-unfolding onTaken
-taken-due s n t =
-    pick-cases Later (isCommand s) _ _ (λ _. due-later (kindOf (destinationOf (starting t (s .kept)))))
-    (λ _. pick-cases Later (eqb (s .due) firstReply) _ _ (λ _ e. omega (arith, e)) (λ _ e. omega (arith, e)))
-
-nacked-due : (s : Listening) (n : ℕ) (t : List ℕ) (place : ℕ) → Later (onNacked s n t place)
-unfolding onNacked
-nacked-due s n t place =
-    pick-cases Later (eqb (s .due) firstCommand) _ _ (λ _ e. omega (arith, e))
-    (λ _. pick-cases Later (eqb (s .due) firstReply) _ _ (λ _ e. omega (arith, e)) (λ _ e. omega (arith, e)))
-
--- behind a decision the first command is not due any more
-decided-due : (s : Listening) (c : List ℕ) (n : ℕ) → 0 < length c → (a : Attempt) → stepBy s c n a .state .held ≡ 0 → stepBy s c n a .state .due ≡ firstCommand → ⊥
-decided-due s c n some (taken t next) none first = taken-due s n t first
-decided-due s c n some (nacked t place) none first = nacked-due s n t place first
-decided-due s c n some (failed why) none first =
-    pick-cases (λ (f : Fed). f .state .held ≡ 0 → f .state .due ≡ firstCommand → ⊥) (eqb (why .number) runEnded) _ _ (λ _ e _. let g : ⊥ = omega (arith, e, some) in g)
-    (λ _ _ e. let g : ⊥ = omega (arith, e) in g) none first
-
-turn-due : (s : Listening) (c : List ℕ) (least : ℕ) → 0 < length c → turnOn s c least .state .held ≡ 0 → turnOn s c least .state .due ≡ firstCommand → ⊥
-turn-due s c least some =
-    pick-cases (λ (f : Fed). f .state .held ≡ 0 → f .state .due ≡ firstCommand → ⊥) (ltb (s .due) synDue) _ _
-    (λ _. decided-due s c (max least (lookedAt (isCommand s) c 0)) some (attemptAt (isCommand s) c 0))
-    (λ _ _. pick-cases (λ (x : Listening). x .due ≡ firstCommand → ⊥) (eqb (getD c 0 0) syn) _ _ (λ _ e. let g : ⊥ = omega (arith, e) in g) (λ _ e. let g : ⊥ = omega (arith, e) in g))
+    subst (λ (x : List ℕ). (n < f .used) × Turned (inHandNow s hand) x (counting f (f .used - n))) (take-append-drop (joinedRoom - n) run)
+    (turned-tries s due hand r (drop (joinedRoom - n) run) more f (is ∙ by-due s (looked hand run) n true (lt-ltb (m .due) synDue due)))
 
 -- ---- the loop, on marks
 
@@ -123,11 +85,10 @@ pub record Turns (all : Fed) (run hand : List ℕ) (m : Marks) (kept : List ℕ)
   pub so-far : Feeding all run (inHandNow (stateOf m kept) (take held hand)) i
   pub most : held ≤ length hand
   pub first : (held ≡ 0 → ⊥) → (held ≡ length hand) × (i ≡ 0) × (m .due < synDue)
-  pub no-restart : NoRestart (stateOf m kept) (take held hand) (drop i run)
 
 pub turns-start : (m : Marks) (kept run hand : List ℕ) → ((length hand ≡ 0 → ⊥) → m .due < synDue) → m .start + length hand + length run ≤ limit
-    → NoRestart (stateOf m kept) hand run → Turns (listened (inHandNow (stateOf m kept) hand) run) run hand m kept (length hand) 0
-turns-start m kept run hand tries bound no-restart =
+    → Turns (listened (inHandNow (stateOf m kept) hand) run) run hand m kept (length hand) 0
+turns-start m kept run hand tries bound =
     let s : List ℕ → Listening = λ h. inHandNow (stateOf m kept) h in
     let x = listened (s hand) run in
     let none : x .used ≡ 0 + x .used = omega arith in
@@ -139,7 +100,6 @@ turns-start m kept run hand tries bound no-restart =
           (record { within = omega arith; same = ap (λ (k : ℕ). record { state = x .state; used = k }) none; bound = omega (arith, long) });
       most = omega arith;
       first = λ some. (refl, refl, tries some);
-      no-restart = subst (λ (h : List ℕ). NoRestart (stateOf m kept) h run) (sym whole) no-restart;
     }
 
 module _ (all : Fed) (run hand : List ℕ) (m : Marks) (kept : List ℕ) (held i : ℕ) (within : length hand ≤ handRoom) (turns : Turns all run hand m kept held i) (more : i < length run) where
@@ -178,7 +138,7 @@ module _ (all : Fed) (run hand : List ℕ) (m : Marks) (kept : List ℕ) (held i
         of-some [] run h = absurd (h refl)
         of-some (b ∷ bs) run h = refl
 
-    sizes : (held + 1 ≤ length c) × (length c ≤ held + (length run - i))
+    sizes : (held < length c) × (length c ≤ held + (length run - i))
     sizes =
         let some : 0 < length part = omega (arith, part-long) in
         let short : length (take held hand) ≤ handRoom = omega (arith, held-long, turns .most) in
@@ -186,7 +146,7 @@ module _ (all : Fed) (run hand : List ℕ) (m : Marks) (kept : List ℕ) (held i
         let size : length c ≡ length (looked (take held hand) part) = ap length is-looked in
         (omega (arith, l .0, held-long), omega (arith, l .1, held-long, part-long))
 
-    pub turn-least : held + 1 ≤ length c
+    pub turn-least : held < length c
     turn-least = sizes .0
 
     pub turn-bound : m .start + length c ≤ limit
@@ -194,7 +154,7 @@ module _ (all : Fed) (run hand : List ℕ) (m : Marks) (kept : List ℕ) (held i
         let long : length (inHand s) ≡ held = ap length (in-hand-now (stateOf m kept) (take held hand)) ∙ held-long in
         omega (arith, sizes .1, turns .so-far .bound)
 
-    module _ (undone : m .due < nothingDue) (t : Step) (kept′ : List ℕ) (is : fedOf t c kept′ ≡ turnOn (stateOf m kept) c (held + 1)) where
+    module _ (undone : m .due < nothingDue) (t : Step) (kept′ : List ℕ) (is : fedOf t c kept′ ≡ turnOn (stateOf m kept) c held) where
       abbrev step : Fed
       step = fedOf t c kept′
 
@@ -204,9 +164,8 @@ module _ (all : Fed) (run hand : List ℕ) (m : Marks) (kept : List ℕ) (held i
           let short : length (take held hand) ≤ handRoom = omega (arith, held-long, turns .most) in
           let tries : (length (take held hand) ≡ 0 → ⊥) → m .due < synDue =
           λ h. let there : held ≡ 0 → ⊥ = λ e. h (held-long ∙ e) in turns .first there .2 in
-          let left : part ≡ drop i run = take-all (length run - i) (drop i run) (omega (arith, length-drop i run)) in
-          turned-by m kept (take held hand) part short some undone tries (subst (NoRestart (stateOf m kept) (take held hand)) (sym left) (turns .no-restart)) step
-          (is ∙ ap (λ (l : List ℕ). turnOn (stateOf m kept) l (held + 1)) is-looked ∙ ap (λ (k : ℕ). turnOn (stateOf m kept) (looked (take held hand) part) (k + 1)) (sym held-long))
+          turned-by m kept (take held hand) part short some undone tries step
+          (is ∙ ap (λ (l : List ℕ). turnOn (stateOf m kept) l held) is-looked ∙ ap (turnOn (stateOf m kept) (looked (take held hand) part)) (sym held-long))
 
       pub turn-some : held < t .used
       turn-some = omega (arith, turned .0, held-long)
@@ -230,9 +189,6 @@ module _ (all : Fed) (run hand : List ℕ) (m : Marks) (kept : List ℕ) (held i
             so-far = subst (λ (b : Bool). Feeding all run (which b) (i + (t .used - held))) shut next;
             most = omega arith;
             first = λ some. absurd (some refl);
-            no-restart =
-                λ first.
-                absurd (turn-due (stateOf m kept) c (held + 1) (omega (arith, turn-least)) (sym (ap (λ (f : Fed). f .state .held) is) ∙ ap (λ (b : Bool). which b .held) shut) (sym (ap (λ (f : Fed). f .state .due) is) ∙ ap (λ (b : Bool). which b .due) shut ∙ first));
           }
 
       -- open: all the bytes are in hand
@@ -260,7 +216,7 @@ module _ (all : Fed) (run hand : List ℕ) (m : Marks) (kept : List ℕ) (held i
       absurd f)
       (le-or-lt held 0)
 
-  pub turns-end : length run ≤ i → ((length hand ≡ 0 → ⊥) → 0 < length run) → record { state = stateOf m kept; used = i } ≡ all
+  pub turns-end : length run ≤ i → 0 < length run → record { state = stateOf m kept; used = i } ≡ all
   turns-end h some-run =
       ⊎-elim
       (λ (none : held ≤ 0).
@@ -268,6 +224,6 @@ module _ (all : Fed) (run hand : List ℕ) (m : Marks) (kept : List ℕ) (held i
       feeding-ends all run (stateOf m kept) i (subst (λ (k : ℕ). Feeding all run (inHandNow (stateOf m kept) (take k hand)) i) z (turns .so-far)) h)
       (λ (some : 0 < held).
       let there : held ≡ 0 → ⊥ = λ e. omega arith in
-      let f : ⊥ = omega (arith, turns .first there .1, some-run (λ e. omega (arith, turns .first there .0, e))) in
+      let f : ⊥ = omega (arith, turns .first there .1) in
       absurd f)
       (le-or-lt held 0)

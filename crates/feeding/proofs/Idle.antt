@@ -1,4 +1,5 @@
--- Bytes that are thrown away: a piece of the beginning one byte after the other, and piece after piece.
+-- Bytes that are thrown away: a piece of the beginning one byte after the other, and piece after piece; and that the attempt on them
+-- is refused.
 -- Assumes nothing.
 use mathlib.Core.Path.{_≡_, refl, sym, ap, _∙_, subst}
 use mathlib.Core.Bool.{Bool, true}
@@ -7,21 +8,24 @@ use mathlib.Core.Logic.{⊎-elim}
 use Prim.Native.Nat.{ℕ, zero, suc, _+_, _-_, _≤_, _<_}
 use native.Mathlib.Omega.{arith}
 use lib.Dec.{eqb, ltb}
-use lib.ListN.{length, take, drop, length-append}
-use lib.Seq.{take-all, drop-drop}
-use borrow.Author.Tests.{lt-ltb, eqb-true, eq-eqb, ne-eqb}
+use lib.ListN.{length, take, drop, length-append, length-drop, take-append-drop}
+use lib.Seq.{drop-append-le, drop-drop}
+use borrow.Author.Tests.{lt-ltb, eqb-true, ne-eqb}
 use Rattle.lists.specs.Choice.{pick}
-use Rattle.lists.proofs.Cases.{by-test, pick-cases, le-or-lt, same-or-not}
+use Rattle.lists.proofs.Cases.{by-test, le-or-lt, same-or-not}
+use Rattle.refusal.specs.Number.{synEarly, at-place}
 use Rattle.escapes.specs.Logical.{runOver}
 use Rattle.beginning.specs.Beginning.{piece, behindPieces, commandStart, passedOver}
 use Rattle.beginning.proofs.Pieces.{piece-size, longer, shorter}
-use Rattle.beginning.proofs.Begun.{none-left, one-left, passed-none, passed-some, passed-size, started-there}
-use Rattle.attempts.specs.Attempt.{failed, attemptAt}
+use Rattle.beginning.proofs.Begun.{none-left, one-left, passed-none, passed-some, passed-within, passed-size}
+use Rattle.attempts.specs.Attempt.{Attempt, taken, nacked, failed, attemptAt}
+use Rattle.exchange.proofs.Restarting.{lastPlace, piece-fails}
 use Rattle.listening.specs.declared.Listening.{Listening}
 use Rattle.listening.specs.declared.Fed.{Fed}
-use Rattle.listening.specs.Listening.{firstCommand, firstReply, synDue, inHand, hasAnswered, inHandNow, goesOn, isCommand, onAttempt, hear, after, listened}
+use Rattle.listening.specs.Listening.{firstCommand, firstReply, synDue, inHand, inHandNow, goesOn, isCommand, onAttempt, hear, after, listened}
 use Rattle.listening.proofs.Undecided.{in-hand-now}
 use Rattle.listening.proofs.Restart.{restarts-of, restarts-not, not-yet}
+use Rattle.feeding.specs.Inner.{thrownBy, beginsAnew, unlessThrown}
 use Rattle.feeding.proofs.AtOnce.{heardWith, NoRestart, first-byte, hears}
 
 -- ---- one piece
@@ -87,13 +91,6 @@ thrown (b ∷ bs) s first hand is (suc j) e =
 
 -- ---- piece after piece
 
--- no more bytes are used than there are
-pub listened-size : (run : List ℕ) (s : Listening) → listened s run .used ≤ length run
-unfolding listened
-listened-size [] s = omega arith
-listened-size (b ∷ bs) s =
-    pick-cases (λ (f : Fed). f .used ≤ length (b ∷ bs)) (hasAnswered s) _ _ (λ _. omega arith) (λ _. omega (arith, listened-size bs (hear s b)))
-
 none-after : (s : Listening) (start k : ℕ) (run : List ℕ) → k ≡ 0 → listened (anew s start) run ≡ after k (listened (anew s (start + k)) (drop k run))
 none-after s start k run z =
     let f = listened (anew s start) run in
@@ -103,129 +100,128 @@ none-after s start k run z =
     ∙ ap (λ (n : ℕ). after 0 (listened (anew s n) run)) same
     ∙ ap (λ (n : ℕ). after n (listened (anew s (start + n)) (drop n run))) (sym z)
 
-pieces-thrown : (n : ℕ) (run : List ℕ) (s : Listening) (start : ℕ)
-    → listened (anew s start) run ≡ after (behindPieces n run) (listened (anew s (start + behindPieces n run)) (drop (behindPieces n run) run))
+-- the pieces that a part of the run begins with
+pieces-thrown : (n : ℕ) (r rest : List ℕ) (s : Listening) (start : ℕ)
+    → listened (anew s start) (r ++ rest) ≡ after (behindPieces n r) (listened (anew s (start + behindPieces n r)) (drop (behindPieces n r) (r ++ rest)))
 unfolding behindPieces
-pieces-thrown zero run s start = none-after s start 0 run refl
-pieces-thrown (suc n) run s start =
-    ⊎-elim (λ (e : piece run ≡ 0). none-after s start (behindPieces (suc n) run) run (none-left (suc n) run e))
-    (λ (e : piece run ≡ 0 → ⊥).
-    let p = piece run in
-    let rest = drop p run in
-    let k = behindPieces n rest in
+pieces-thrown zero r rest s start = none-after s start 0 (r ++ rest) refl
+pieces-thrown (suc n) r rest s start =
+    ⊎-elim (λ (e : piece r ≡ 0). none-after s start (behindPieces (suc n) r) (r ++ rest) (none-left (suc n) r e))
+    (λ (e : piece r ≡ 0 → ⊥).
+    let p = piece r in
+    let left = drop p r in
+    let k = behindPieces n left in
     let some : suc (p - 1) ≡ p = omega (arith, e) in
-    let one : listened (anew s start) run ≡ after p (listened (anew s (start + p)) rest) =
-    thrown run (anew s start) refl [] refl (p - 1) (omega (arith, e))
-    ∙ ap (λ (x : ℕ). after x (listened (anew s (start + 0 + x)) (drop x run))) some
-    ∙ ap (λ (x : ℕ). after p (listened (anew s x) rest)) (let z : start + 0 + p ≡ start + p = omega arith in z) in
-    let f = listened (anew s (start + p + k)) (drop k rest) in
+    let there : 0 < p = omega (arith, e) in
+    let cut : drop p (r ++ rest) ≡ left ++ rest = drop-append-le p r rest (piece-size r) in
+    let one : listened (anew s start) (r ++ rest) ≡ after p (listened (anew s (start + p)) (left ++ rest)) =
+    thrown (r ++ rest) (anew s start) refl [] refl (p - 1) (omega (arith, there, longer r rest there))
+    ∙ ap (λ (x : ℕ). after x (listened (anew s (start + 0 + x)) (drop x (r ++ rest)))) some
+    ∙ ap (λ (l : List ℕ). after p (listened (anew s (start + 0 + p)) l)) cut
+    ∙ ap (λ (x : ℕ). after p (listened (anew s x) (left ++ rest))) (let z : start + 0 + p ≡ start + p = omega arith in z) in
+    let f = listened (anew s (start + p + k)) (drop k (left ++ rest)) in
     let sum : p + (k + f .used) ≡ p + k + f .used = omega arith in
     let far : start + p + k ≡ start + (p + k) = omega arith in
     one
-    ∙ ap (after p) (pieces-thrown n rest s (start + p))
+    ∙ ap (after p) (pieces-thrown n left rest s (start + p))
     ∙ ap (λ (x : ℕ). record { state = f .state; used = x }) sum
-    ∙ ap (λ (l : List ℕ). after (p + k) (listened (anew s (start + p + k)) l)) (drop-drop k p run)
-    ∙ ap (λ (x : ℕ). after (p + k) (listened (anew s x) (drop (p + k) run))) far
-    ∙ ap (λ (x : ℕ). after x (listened (anew s (start + x)) (drop x run))) (sym (one-left n run e)))
-    (same-or-not (piece run) 0)
+    ∙ ap (λ (l : List ℕ). after (p + k) (listened (anew s (start + p + k)) (drop k l))) (sym cut)
+    ∙ ap (λ (l : List ℕ). after (p + k) (listened (anew s (start + p + k)) l)) (drop-drop k p (r ++ rest))
+    ∙ ap (λ (x : ℕ). after (p + k) (listened (anew s x) (drop (p + k) (r ++ rest)))) far
+    ∙ ap (λ (x : ℕ). after x (listened (anew s (start + x)) (drop x (r ++ rest)))) (sym (one-left n r e)))
+    (same-or-not (piece r) 0)
 
 -- ---- with bytes in hand
 
-module _ (s : Listening) (first : s .due ≡ firstCommand) (hand run : List ℕ) (i : ℕ) (is : i ≡ passedOver hand run) where
+module _ (s : Listening) (first : s .due ≡ firstCommand) (hand r : List ℕ) (i : ℕ) (is : i ≡ passedOver hand r) where
   abbrev ends : ℕ
-  ends = piece (hand ++ run) - length hand
+  ends = piece (hand ++ r) - length hand
 
   -- nothing is thrown away
-  pub none-passed : i ≡ 0 → NoRestart s hand run
+  pub none-passed : i ≡ 0 → NoRestart s hand r
   none-passed none _ =
-      ⊎-elim (λ (h : piece (hand ++ run) ≤ length hand). h)
-      (λ (h : length hand < piece (hand ++ run)). let some = passed-some hand run ends refl (λ e. omega (arith, e, h)) in let f : ⊥ = omega (arith, some, is, none, h) in absurd f)
-      (le-or-lt (piece (hand ++ run)) (length hand))
+      ⊎-elim (λ (h : piece (hand ++ r) ≤ length hand). h)
+      (λ (h : length hand < piece (hand ++ r)). let some = passed-some hand r ends refl (λ e. omega (arith, e, h)) in let f : ⊥ = omega (arith, some, is, none, h) in absurd f)
+      (le-or-lt (piece (hand ++ r)) (length hand))
 
   some-ends : (i ≡ 0 → ⊥) → ends ≡ 0 → ⊥
-  some-ends some e = some (is ∙ passed-none hand run ends refl e)
+  some-ends some e = some (is ∙ passed-none hand r ends refl e)
 
   -- what is in hand is thrown away, and so many bytes of the run with it
-  pub all-passed : (i ≡ 0 → ⊥) → listened (inHandNow s hand) run ≡ after i (listened (anew s (s .start + length hand + i)) (drop i run))
-  all-passed some =
-      let k = commandStart (drop ends run) in
+  pub all-passed : (i ≡ 0 → ⊥) → (rest : List ℕ)
+      → listened (inHandNow s hand) (r ++ rest) ≡ after i (listened (anew s (s .start + length hand + i)) (drop i (r ++ rest)))
+  all-passed some rest =
+      let left = drop ends r in
+      let k = commandStart left in
       let there = some-ends some in
       let one : suc (ends - 1) ≡ ends = omega (arith, there) in
-      let sum : i ≡ ends + k = is ∙ passed-some hand run ends refl there in
-      let f = listened (anew s (s .start + length hand + ends + k)) (drop k (drop ends run)) in
-      thrown run (inHandNow s hand) first hand (in-hand-now s hand) (ends - 1) (omega (arith, there))
-      ∙ ap (λ (x : ℕ). after x (listened (anew s (s .start + length hand + x)) (drop x run))) one
-      ∙ ap (after ends) (pieces-thrown (length (drop ends run)) (drop ends run) s (s .start + length hand + ends))
+      let sum : i ≡ ends + k = is ∙ passed-some hand r ends refl there in
+      let whole : piece (hand ++ (r ++ rest)) ≡ piece (hand ++ r) =
+      ap piece (sym (append-assoc hand r rest)) ∙ longer (hand ++ r) rest (let h : 0 < piece (hand ++ r) = omega (arith, there) in h) in
+      let cut : drop ends (r ++ rest) ≡ left ++ rest = drop-append-le ends r rest (passed-within hand r ends refl) in
+      let from = s .start + length hand in
+      let f = listened (anew s (from + ends + k)) (drop k (left ++ rest)) in
+      thrown (r ++ rest) (inHandNow s hand) first hand (in-hand-now s hand) (ends - 1) (omega (arith, there, whole))
+      ∙ ap (λ (x : ℕ). after x (listened (anew s (from + x)) (drop x (r ++ rest)))) one
+      ∙ ap (λ (l : List ℕ). after ends (listened (anew s (from + ends)) l)) cut
+      ∙ ap (after ends) (pieces-thrown (length left) left rest s (from + ends))
       ∙ ap (λ (x : ℕ). record { state = f .state; used = x }) (let z : ends + (k + f .used) ≡ ends + k + f .used = omega arith in z)
-      ∙ ap (λ (l : List ℕ). after (ends + k) (listened (anew s (s .start + length hand + ends + k)) l)) (drop-drop k ends run)
-      ∙ ap (λ (x : ℕ). after (ends + k) (listened (anew s x) (drop (ends + k) run))) (let z : s .start + length hand + ends + k ≡ s .start + length hand + (ends + k) = omega arith in z)
-      ∙ ap (λ (x : ℕ). after x (listened (anew s (s .start + length hand + x)) (drop x run))) (sym sum)
+      ∙ ap (λ (l : List ℕ). after (ends + k) (listened (anew s (from + ends + k)) (drop k l))) (sym cut)
+      ∙ ap (λ (l : List ℕ). after (ends + k) (listened (anew s (from + ends + k)) l)) (drop-drop k ends (r ++ rest))
+      ∙ ap (λ (x : ℕ). after (ends + k) (listened (anew s x) (drop (ends + k) (r ++ rest)))) (let z : from + ends + k ≡ from + (ends + k) = omega arith in z)
+      ∙ ap (λ (x : ℕ). after x (listened (anew s (from + x)) (drop x (r ++ rest)))) (sym sum)
 
-  -- and nothing of what is left
-  pub none-left-over : (i ≡ 0 → ⊥) → piece (drop i run) ≡ 0
-  none-left-over some =
-      let k = commandStart (drop ends run) in
-      let sum : i ≡ ends + k = is ∙ passed-some hand run ends refl (some-ends some) in
-      ap (λ (x : ℕ). piece (drop x run)) sum ∙ ap piece (sym (drop-drop k ends run)) ∙ started-there (drop ends run)
+-- ---- what is thrown away of the bytes that are there
 
--- ---- what is thrown away of a run, and what stays in hand
+-- an attempt that is not refused with number 5
+abbrev NotEarly : Attempt → Type 0
+NotEarly (taken t next) = Unit {0}
+NotEarly (nacked t place) = Unit {0}
+NotEarly (failed why) = why .number ≡ synEarly → ⊥
 
-module _ (s : Listening) (hand run : List ℕ) (i held : ℕ) (is : i ≡ pick (eqb (s .due) firstCommand) (passedOver hand run) 0) (held-is : held ≡ pick (eqb i 0) (length hand) 0) where
-  -- the state behind what is thrown away
-  abbrev pub behind : Listening
-  behind = goesOn s (s .start + length hand - held + i) (s .due)
+module _ (due : ℕ) (c : List ℕ) (held : ℕ) where
+  abbrev thrown-here : ℕ
+  thrown-here = thrownBy due c held
 
-  abbrev pub stays : List ℕ
-  stays = take held hand
+  -- something only before the first command
+  pub thrown-first : (thrown-here ≡ 0 → ⊥) → (due ≡ firstCommand) × (thrown-here ≡ passedOver (take held c) (drop held c))
+  thrown-first some =
+      by-test (eqb due firstCommand)
+      (λ y. (eqb-true due firstCommand y, ap (λ (t : Bool). pick t (passedOver (take held c) (drop held c)) 0) y))
+      (λ y. absurd (some (ap (λ (t : Bool). pick t (passedOver (take held c) (drop held c)) 0) y)))
 
-  -- nothing, or something and the first command is due
-  cases : {P : Type 0} → (i ≡ 0 → held ≡ length hand → P) → ((i ≡ 0 → ⊥) → held ≡ 0 → s .due ≡ firstCommand → i ≡ passedOver hand run → P) → P
-  cases none some =
-      ⊎-elim (λ (z : i ≡ 0). none z (held-is ∙ ap (λ (t : Bool). pick t (length hand) 0) (eq-eqb i 0 z)))
-      (λ (n : i ≡ 0 → ⊥).
-      by-test (eqb (s .due) firstCommand)
-      (λ y. some n (held-is ∙ ap (λ (t : Bool). pick t (length hand) 0) (ne-eqb i 0 n)) (eqb-true (s .due) firstCommand y) (is ∙ ap (λ (t : Bool). pick t (passedOver hand run) 0) y))
-      (λ y. absurd (n (is ∙ ap (λ (t : Bool). pick t (passedOver hand run) 0) y))))
-      (same-or-not i 0)
+  -- no more than there is
+  pub thrown-most : held ≤ length c → held + thrown-here ≤ length c
+  thrown-most within =
+      ⊎-elim (λ (z : thrown-here ≡ 0). omega (arith, z))
+      (λ (some : thrown-here ≡ 0 → ⊥). omega (arith, thrown-first some .1, passed-size (take held c) (drop held c), length-drop held c))
+      (same-or-not thrown-here 0)
 
-  pub thrown-most : i ≤ length run
-  thrown-most = cases (λ z _. omega (arith, z)) (λ _ _ _ e. omega (arith, e, passed-size hand run))
+  -- a piece stands there, and so the attempt is refused with number 5
+  thrown-fails : (thrown-here ≡ 0 → ⊥) → attemptAt (ltb due firstReply) c 0 ≡ failed (at-place synEarly (lastPlace c))
+  thrown-fails some =
+      let first = thrown-first some in
+      let hand = take held c in
+      let rest = drop held c in
+      let ends = piece (hand ++ rest) - length hand in
+      let there : ends ≡ 0 → ⊥ = λ e. some (first .1 ∙ passed-none hand rest ends refl e) in
+      let begins : 0 < piece (hand ++ rest) = omega (arith, there) in
+      ap (λ (t : Bool). attemptAt t c 0) (lt-ltb due firstReply (omega (arith, first .0)))
+      ∙ piece-fails c (subst (λ (l : List ℕ). 0 < piece l) (take-append-drop held c) begins)
 
-  pub stays-most : held ≤ length hand
-  stays-most = cases (λ _ e. omega (arith, e)) (λ _ e _ _. omega (arith, e))
+  -- any other attempt throws nothing away
+  pub none-thrown : (a : Attempt) → a ≡ attemptAt (ltb due firstReply) c 0 → NotEarly a → thrown-here ≡ 0
+  none-thrown a is other =
+      ⊎-elim (λ (z : thrown-here ≡ 0). z) (λ (some : thrown-here ≡ 0 → ⊥). absurd (subst NotEarly (is ∙ thrown-fails some) other refl)) (same-or-not thrown-here 0)
 
-  -- bytes that stay in hand have the whole run behind them
-  pub stays-before : (held ≡ 0 → ⊥) → i ≡ 0
-  stays-before some = cases (λ z _. z) (λ _ e _ _. absurd (some e))
+-- ---- what an attempt makes, unless bytes are thrown away
 
-  pub none-thrown-on : NoRestart behind stays (drop i run)
-  none-thrown-on first =
-      cases
-      (λ z e.
-      let whole : stays ≡ hand = take-all held hand (omega (arith, e)) in
-      let all : drop i run ≡ run = ap (λ (k : ℕ). drop k run) z in
-      let i-is : i ≡ passedOver hand run = is ∙ ap (λ (t : Bool). pick t (passedOver hand run) 0) (eq-eqb (s .due) firstCommand first) in
-      subst (λ (h : List ℕ). piece (h ++ drop i run) ≤ length h) (sym whole) (subst (λ (r : List ℕ). piece (hand ++ r) ≤ length hand) (sym all) (none-passed s first hand run i i-is z first)))
-      (λ n e due i-is.
-      let empty : stays ≡ [] = ap (λ (k : ℕ). take k hand) e in
-      let none = none-left-over s due hand run i i-is n in
-      subst (λ (h : List ℕ). piece (h ++ drop i run) ≤ length h) (sym empty) (omega (arith, none)))
+module _ (s : Listening) (c : List ℕ) (held : ℕ) (f : Fed) where
+  abbrev by-thrown : ℕ → Fed
+  by-thrown thrown = pick (eqb thrown 0) f (beginsAnew s (held + thrown))
 
-  pub thrown-then : listened (inHandNow s hand) run ≡ after i (listened (inHandNow behind stays) (drop i run))
-  thrown-then =
-      cases
-      (λ z e.
-      let f = listened (inHandNow s hand) run in
-      let whole : stays ≡ hand = take-all held hand (omega (arith, e)) in
-      let start : s .start ≡ s .start + length hand - held + i = omega (arith, z, e) in
-      ap (λ (n : ℕ). record { state = f .state; used = n }) (let k : f .used ≡ 0 + f .used = omega arith in k)
-      ∙ ap (λ (n : ℕ). after 0 (listened (inHandNow (goesOn s n (s .due)) hand) run)) start
-      ∙ ap (λ (h : List ℕ). after 0 (listened (inHandNow behind h) run)) (sym whole)
-      ∙ ap (λ (n : ℕ). after n (listened (inHandNow behind stays) (drop n run))) (sym z))
-      (λ n e due i-is.
-      let empty : stays ≡ [] = ap (λ (k : ℕ). take k hand) e in
-      let start : s .start + length hand + i ≡ s .start + length hand - held + i = omega (arith, e) in
-      all-passed s due hand run i i-is n
-      ∙ ap (λ (d : ℕ). after i (listened (goesOn s (s .start + length hand + i) d) (drop i run))) (sym due)
-      ∙ ap (λ (k : ℕ). after i (listened (goesOn s k (s .due)) (drop i run))) start
-      ∙ ap (λ (h : List ℕ). after i (listened (inHandNow behind h) (drop i run))) (sym empty))
+  pub unless-none : thrownBy (s .due) c held ≡ 0 → f ≡ unlessThrown s c held f
+  unless-none none = ap by-thrown (sym none)
+
+  pub unless-some : (thrown : ℕ) → thrown ≡ thrownBy (s .due) c held → (thrown ≡ 0 → ⊥) → beginsAnew s (held + thrown) ≡ unlessThrown s c held f
+  unless-some thrown is some = sym (ap (λ (b : Bool). pick b f (beginsAnew s (held + thrown))) (ne-eqb thrown 0 some)) ∙ ap by-thrown is

@@ -2,30 +2,32 @@
 -- Assumes nothing.
 use mathlib.Core.Path.{_≡_, refl, sym, ap, _∙_, subst}
 use mathlib.Core.Bool.{Bool, false}
-use mathlib.Core.List.{List, [], _∷_, _++_, append-assoc, append-nil}
+use mathlib.Core.List.{List, [], _∷_, _++_, append-assoc}
+use mathlib.Core.Logic.{⊎-elim}
 use Prim.Native.Nat.{ℕ, _+_, _-_, _≤_, _<_, min, max}
 use native.Mathlib.Omega.{arith}
 use lib.Dec.{eqb, ltb}
-use lib.ListN.{length, getD, take, drop, length-append, length-take, length-drop, take-append-drop}
-use lib.Seq.{take-append-le, drop-append-le, length-take-le}
-use borrow.Author.Tests.{lt-ltb, le-ltb, lt-leb}
+use lib.ListN.{length, getD, take, drop, length-append, length-take, length-drop}
+use lib.Seq.{take-append-le, drop-append-le, take-append-seam, drop-append-seam, length-take-le}
+use borrow.Author.Tests.{lt-ltb, le-ltb, lt-leb, eq-eqb}
 use Rattle.lists.specs.Choice.{pick}
 use Rattle.lists.specs.Starting.{starting}
-use Rattle.lists.proofs.Cases.{pick-cases}
+use Rattle.lists.proofs.Cases.{pick-cases, same-or-not}
 use Rattle.lists.proofs.Filling.{put-whole, put-behind, length-starting}
 use Rattle.refusal.specs.Number.{runEnded}
 use Rattle.escapes.specs.Escape.{syn}
-use Rattle.beginning.specs.Beginning.{piece}
-use Rattle.beginning.proofs.Pieces.{shorter-most}
+use Rattle.beginning.specs.Beginning.{passedOver}
+use Rattle.beginning.proofs.Begun.{passed-size}
 use Rattle.attempts.specs.Attempt.{Attempt, taken, nacked, failed, attemptAt}
 use Rattle.attempts.specs.Looks.{lookedAt}
 use Rattle.listening.specs.declared.Listening.{Listening}
 use Rattle.listening.specs.declared.Fed.{Fed}
 use Rattle.listening.specs.Listening.{firstCommand, firstReply, synDue, nothingDue, handRoom, inHand, hasAnswered, inHandNow, goesOn, isCommand, onTaken, onNacked, onAttempt, onSyn, hear, after, listened}
-use Rattle.feeding.specs.Inner.{stepBy, stepOn, joinedRoom, joined, Turned}
+use Rattle.feeding.specs.Inner.{stepBy, stepOn, thrownBy, beginsAnew, triesOn, joinedRoom, joined, Turned}
 use Rattle.listening.proofs.Undecided.{in-hand-now}
 use Rattle.listening.proofs.Restart.{restarts-not}
 use Rattle.feeding.proofs.AtOnce.{NoRestart, same-step, at-once}
+use Rattle.feeding.proofs.Idle.{none-passed, all-passed, thrown-first, unless-none, unless-some}
 
 -- ---- the bytes in hand, and behind them as many of a run as there is room for
 
@@ -97,7 +99,7 @@ abbrev pub counting : Fed → ℕ → Fed
 counting f n = record { state = f .state; used = n }
 
 -- an attempt on the bytes in hand and those behind them
-pub turned : (s : Listening) → s .due < synDue → (hand : List ℕ) → inHand s ≡ hand → (run rest : List ℕ) → 0 < length run → NoRestart s hand run
+turned : (s : Listening) → s .due < synDue → (hand : List ℕ) → inHand s ≡ hand → (run rest : List ℕ) → 0 < length run → NoRestart s hand run
     → (used : ℕ) → used ≡ stepOn s (hand ++ run) (length hand + 1) .used - length hand
     → Turned s (run ++ rest) (counting (stepOn s (hand ++ run) (length hand + 1)) used)
 turned s tries hand is [] rest h no-restart used e = let f : ⊥ = omega arith in absurd f
@@ -115,33 +117,49 @@ turned s tries hand is (b ∷ r) rest h no-restart used e =
       moves = omega (arith, step-moves s c (max (length hand + 1) (lookedAt (isCommand s) c 0)) (attemptAt (isCommand s) c 0), on .some, ap length is);
     }
 
--- nothing is in hand
-pub turned-alone : (s : Listening) → s .due < synDue → inHand s ≡ [] → (run : List ℕ) → 0 < length run → NoRestart s [] run → (f : Fed) → f ≡ stepOn s run 1 → Turned s run f
-turned-alone s tries empty run some-run no-restart f is =
-    let g = stepOn s run 1 in
-    let all : g .used ≡ g .used - 0 = omega arith in
-    subst (Turned s run) (sym is) (subst (λ (r : List ℕ). Turned s r g) (append-nil run) (turned s tries [] empty run [] some-run no-restart (g .used) all))
+-- what is in hand is thrown away
+turned-anew : (s : Listening) → s .due ≡ firstCommand → (hand r rest : List ℕ) (i : ℕ) → i ≡ passedOver hand r → (i ≡ 0 → ⊥)
+    → Turned (inHandNow s hand) (r ++ rest) (counting (beginsAnew s (length hand + i)) i)
+turned-anew s first hand r rest i is some =
+    let n = length hand in
+    let start : s .start + n + i ≡ s .start + (n + i) = omega arith in
+    record {
+      some = omega (arith, some);
+      within = omega (arith, is, passed-size hand r, length-append r rest);
+      same =
+          all-passed s first hand r i is some rest
+          ∙ ap (λ (d : ℕ). after i (listened (goesOn s (s .start + n + i) d) (drop i (r ++ rest)))) (sym first)
+          ∙ ap (λ (k : ℕ). after i (listened (goesOn s k (s .due)) (drop i (r ++ rest)))) start;
+      moves = omega (arith, ap length (in-hand-now s hand));
+    }
 
--- the bytes in hand are joined with some of the run
-pub turned-joined : (s₀ : Listening) → s₀ .due < synDue → (hand run : List ℕ) → length hand ≤ handRoom → 0 < length run → NoRestart s₀ hand run
-    → (f : Fed) → f ≡ stepOn s₀ (joined hand run) (length hand + 1)
-    → (length hand < f .used) × Turned (inHandNow s₀ hand) run (counting f (f .used - length hand))
-turned-joined s₀ tries hand run within some-run no-restart f is =
+-- a turn on the bytes in hand and those behind them, where an attempt is due
+pub turned-tries : (s₀ : Listening) → s₀ .due < synDue → (hand r rest : List ℕ) → 0 < length r → (f : Fed) → f ≡ triesOn s₀ (hand ++ r) (length hand)
+    → (length hand < f .used) × Turned (inHandNow s₀ hand) (r ++ rest) (counting f (f .used - length hand))
+turned-tries s₀ tries hand r rest more f is =
     let s = inHandNow s₀ hand in
     let n = length hand in
-    let r = take (joinedRoom - n) run in
     let c = hand ++ r in
+    let thrown = thrownBy (s₀ .due) c n in
+    let parts : passedOver (take n c) (drop n c) ≡ passedOver hand r =
+    ap (λ (l : List ℕ). passedOver l (drop n c)) (take-append-seam hand r) ∙ ap (passedOver hand) (drop-append-seam hand r) in
+    ⊎-elim
+    (λ (z : thrown ≡ 0).
     let g = stepOn s c (n + 1) in
-    let f-is : f ≡ g = is ∙ sym (same-step s₀ hand c (max (n + 1) (lookedAt (isCommand s₀) c 0)) (attemptAt (isCommand s₀) c 0)) in
-    let more : 0 < length r = omega (arith, length-take (joinedRoom - n) run) in
-    let whole : c ++ drop (joinedRoom - n) run ≡ hand ++ run = append-assoc hand r (drop (joinedRoom - n) run) ∙ ap (λ (x : List ℕ). hand ++ x) (take-append-drop (joinedRoom - n) run) in
-    let part : NoRestart s hand r = λ first. shorter-most c (drop (joinedRoom - n) run) n (subst (λ (x : List ℕ). piece x ≤ n) (sym whole) (no-restart first)) in
-    let t = turned s tries hand (in-hand-now s₀ hand) r (drop (joinedRoom - n) run) more part (g .used - n) refl in
-    let used-is : f .used ≡ g .used = ap (λ (x : Fed). x .used) f-is in (
-      omega (arith, t .some),
-      subst (λ (x : Fed). Turned s run (counting x (x .used - n))) (sym f-is)
-          (subst (λ (x : List ℕ). Turned s x (counting g (g .used - n))) (take-append-drop (joinedRoom - n) run) t),
-    )
+    let f-is : f ≡ g = is ∙ sym (unless-none s₀ c n (stepOn s₀ c (n + 1)) z) ∙ sym (same-step s₀ hand c (max (n + 1) (lookedAt (isCommand s₀) c 0)) (attemptAt (isCommand s₀) c 0)) in
+    let none : (first : s₀ .due ≡ firstCommand) → 0 ≡ passedOver hand r =
+    λ first. sym z ∙ ap (λ (t : Bool). pick t (passedOver (take n c) (drop n c)) 0) (eq-eqb (s₀ .due) firstCommand first) ∙ parts in
+    let t = turned s tries hand (in-hand-now s₀ hand) r rest more (λ first. none-passed s₀ first hand r 0 (none first) refl first) (g .used - n) refl in
+    let used-is : f .used ≡ g .used = ap (λ (x : Fed). x .used) f-is in
+    (omega (arith, t .some), subst (λ (x : Fed). Turned s (r ++ rest) (counting x (x .used - n))) (sym f-is) t))
+    (λ (some : thrown ≡ 0 → ⊥).
+    let first = thrown-first (s₀ .due) c n some in
+    let f-is : f ≡ beginsAnew s₀ (n + thrown) = is ∙ sym (unless-some s₀ c n (stepOn s₀ c (n + 1)) thrown refl some) in
+    let t = turned-anew s₀ (first .0) hand r rest thrown (first .1 ∙ parts) some in
+    let used-is : f .used ≡ n + thrown = ap (λ (x : Fed). x .used) f-is in
+    let count : thrown ≡ n + thrown - n = omega arith in
+    (omega (arith, used-is, t .some), subst (λ (x : Fed). Turned s (r ++ rest) (counting x (x .used - n))) (sym f-is) (subst (λ (k : ℕ). Turned s (r ++ rest) (counting (beginsAnew s₀ (n + thrown)) k)) count t)))
+    (same-or-not thrown 0)
 
 -- SYN is due
 module _ (s : Listening) (due : synDue ≤ s .due) (undone : s .due < nothingDue) where

@@ -8,11 +8,12 @@ use lib.Dec.{eqb, ltb}
 use lib.ListN.{length, getD, take, drop, replicate}
 use Rattle.lists.specs.Choice.{pick}
 use Rattle.refusal.specs.Number.{runEnded}
+use Rattle.beginning.specs.Beginning.{passedOver}
 use Rattle.attempts.specs.Attempt.{Attempt, taken, nacked, failed, attemptAt}
 use Rattle.attempts.specs.Looks.{lookedAt}
 use Rattle.listening.specs.declared.Listening.{Listening}
 use Rattle.listening.specs.declared.Fed.{Fed}
-use Rattle.listening.specs.Listening.{firstReply, synDue, nothingDue, handRoom, inHand, isCommand, inHandNow, refuses, onTaken, onNacked, onSyn, after, listened}
+use Rattle.listening.specs.Listening.{firstCommand, firstReply, synDue, nothingDue, handRoom, inHand, isCommand, inHandNow, goesOn, refuses, onTaken, onNacked, onSyn, after, listened}
 use Rattle.feeding.specs.declared.marks.Marks.{Marks}
 use Rattle.feeding.specs.declared.attempt.Step.{Step}
 
@@ -61,9 +62,26 @@ stepBy s c n (failed why) =
 abbrev pub stepOn : Listening → List ℕ → ℕ → Fed
 stepOn s c least = stepBy s c (max least (lookedAt (isCommand s) c 0)) (attemptAt (isCommand s) c 0)
 
+-- ---- the beginning
+
+-- how many of these bytes are thrown away behind so many in hand, which go with them: those of the pieces before the first command
+abbrev pub thrownBy : ℕ → List ℕ → ℕ → ℕ
+thrownBy due c held = pick (eqb due firstCommand) (passedOver (take held c) (drop held c)) 0
+
+-- nothing is in hand behind so many bytes, and what was due is due
+abbrev pub beginsAnew : Listening → ℕ → Fed
+beginsAnew s n = record { state = goesOn s (s .start + n) (s .due); used = n }
+
+-- what an attempt on these bytes makes, unless some are thrown away: it begins anew behind them
+abbrev pub unlessThrown : Listening → List ℕ → ℕ → Fed → Fed
+unlessThrown s c held f = pick (eqb (thrownBy (s .due) c held) 0) f (beginsAnew s (held + thrownBy (s .due) c held))
+
+abbrev pub triesOn : Listening → List ℕ → ℕ → Fed
+triesOn s c held = unlessThrown s c held (stepOn s c (held + 1))
+
 -- .. or the byte that is due to be SYN
 abbrev pub turnOn : Listening → List ℕ → ℕ → Fed
-turnOn s c least = pick (ltb (s .due) synDue) (stepOn s c least) (record { state = onSyn s (getD c 0 0); used = 1 })
+turnOn s c held = pick (ltb (s .due) synDue) (triesOn s c held) (record { state = onSyn s (getD c 0 0); used = 1 })
 
 -- ---- the bytes in hand and a run
 

@@ -6,6 +6,7 @@ use addresses::ExchangeKind;
 use addresses::kind;
 use attempts::Standing;
 use attempts::attempt_at;
+use beginning::passed_over;
 use escapes::ESC;
 use escapes::SYN;
 use listening::FIRST_COMMAND;
@@ -22,7 +23,7 @@ use refusal::REPLY_NACKED;
 use refusal::RUN_ENDED;
 use refusal::Refusal;
 ghost use mathlib.Core.Path.{_≡_};
-ghost use mathlib.Core.Bool.{Bool};
+ghost use mathlib.Core.Bool.{Bool, false};
 ghost use mathlib.Core.List.{List, _++_};
 ghost use Prim.Native.Nat.{ℕ, _+_, _≤_, _<_, max};
 ghost use lib.ListN.{length, take, drop};
@@ -35,7 +36,7 @@ ghost use Rattle.attempts.specs.Attempt.{failed};
 ghost use Rattle.attempts.specs.View.{Ready};
 ghost use Rattle.exchange.specs.Exchange.{limit, nackedTwice};
 ghost use Rattle.listening.specs.Listening.{handRoom, dueBehind, onTaken, onNacked, onSyn};
-ghost use Rattle.feeding.specs.Inner.{stateOf, commandDue, fedOf, Ends, stepBy, stepOn, turnOn};
+ghost use Rattle.feeding.specs.Inner.{stateOf, commandDue, fedOf, Ends, stepBy, thrownBy, beginsAnew, unlessThrown, triesOn, turnOn};
 
 // What a decision makes of the marks, and how many bytes it used; or it is open, and all are in hand.
 pub(crate) struct Step {
@@ -164,11 +165,40 @@ fn larger(a: usize, b: usize) -> usize
     a
 }
 
-// An attempt that failed: by the end of its bytes, which are then all in hand; or for a reason that n
-// of them tell, whose place counts from the recording's start.
-fn on_failed(m: Marks, bytes: &[u8], n: usize, why: Refusal) -> Step
-    requires { ⌜ (m .start + length (now bytes) ≤ limit) × (why .place ≤ length (now bytes)) × (why .number ≡ runEnded → length (now bytes) ≤ handRoom) × ((why .number ≡ runEnded → ⊥) → n ≤ length (now bytes)) ⌝ }
-    ensures { λ r. ⌜ ((kept : List ℕ) → fedOf r (now (bytes .entry)) kept ≡ stepBy (stateOf m kept) (now (bytes .entry)) n (failed why)) × Ends r (now (bytes .entry)) ⌝ }
+// How many bytes are thrown away behind so many in hand: SYN does so as long as SRC or DST of the
+// first command is not whole.
+fn thrown_away(due: u8, bytes: &[u8], held: usize) -> usize
+    requires { ⌜ held ≤ length (now bytes) ⌝ }
+    ensures { λ r. ⌜ r ≡ thrownBy due (now (bytes .entry)) held ⌝ }
+{
+    if due == FIRST_COMMAND {
+        return passed_over(&bytes[..held], &bytes[held..]);
+    }
+    0
+}
+
+// The bytes in hand and so many behind them are thrown away: nothing is in hand, and what was due is
+// due behind them.
+fn begin_anew(mut m: Marks, held: usize, thrown: usize) -> Step
+    requires { ⌜ m .start + (held + thrown) ≤ limit ⌝ }
+    ensures { λ r. ⌜ ((kept c : List ℕ) → fedOf r c kept ≡ beginsAnew (stateOf m kept) (held + thrown)) × (r .open ≡ false) ⌝ }
+{
+    let passed = held + thrown;
+    m.start += passed;
+    Step {
+        marks: m,
+        used: passed,
+        open: false,
+    }
+}
+
+// An attempt that failed: by the end of its bytes, which are then all in hand; by a SYN that throws
+// away what is in hand, and with it all that the next ones throw away, so that idle time is walked
+// over in one loop; or for a reason that n of them tell, whose place counts from the recording's
+// start. That SYN is looked for here alone, so that a command pays nothing for it.
+fn on_failed(m: Marks, bytes: &[u8], held: usize, n: usize, why: Refusal) -> Step
+    requires { ⌜ (m .start + length (now bytes) ≤ limit) × (why .place ≤ length (now bytes)) × (why .number ≡ runEnded → length (now bytes) ≤ handRoom) × ((why .number ≡ runEnded → ⊥) → n ≤ length (now bytes)) × (held ≤ length (now bytes)) × (why .number ≡ runEnded → thrownBy (m .due) (now bytes) held ≡ 0) ⌝ }
+    ensures { λ r. ⌜ ((kept : List ℕ) → fedOf r (now (bytes .entry)) kept ≡ unlessThrown (stateOf m kept) (now (bytes .entry)) held (stepBy (stateOf m kept) (now (bytes .entry)) n (failed why))) × Ends r (now (bytes .entry)) ⌝ }
 {
     if why.number == RUN_ENDED {
         return Step {
@@ -177,6 +207,10 @@ fn on_failed(m: Marks, bytes: &[u8], n: usize, why: Refusal) -> Step
             open: true,
         };
     }
+    let thrown = thrown_away(m.due, bytes, held);
+    if thrown != 0 {
+        return begin_anew(m, held, thrown);
+    }
     Step {
         marks: answers(m, m.start + n, why.number, m.start + why.place),
         used: n,
@@ -184,23 +218,23 @@ fn on_failed(m: Marks, bytes: &[u8], n: usize, why: Refusal) -> Step
     }
 }
 
-// An attempt on all the bytes that are there, from the first in hand: those through the one that
-// decides it are used, at least so many of them, and all where none does.
+// An attempt on all the bytes that are there, of which so many were in hand: those through the one
+// that decides it are used, at least one behind those in hand, and all where none does.
 fn decide(
     m: Marks,
     bytes: &[u8],
-    least: usize,
+    held: usize,
     tables: &[u8; 512],
     kept: &mut [u8; KEPT_ROOM],
 ) -> Step
-    requires { ⌜ EbusTables (now tables) × (1 ≤ least) × (least ≤ length (now bytes)) × (m .start + length (now bytes) ≤ limit) ⌝ }
-    ensures { λ r. ⌜ fedOf r (now (bytes .entry)) (now (kept .exit)) ≡ stepOn (stateOf m (now (kept .entry))) (now (bytes .entry)) least ⌝ }
+    requires { ⌜ EbusTables (now tables) × (held < length (now bytes)) × (m .start + length (now bytes) ≤ limit) ⌝ }
+    ensures { λ r. ⌜ fedOf r (now (bytes .entry)) (now (kept .exit)) ≡ triesOn (stateOf m (now (kept .entry))) (now (bytes .entry)) held ⌝ }
     ensures { λ r. ⌜ Ends r (now (bytes .entry)) ⌝ }
 {
     let a = attempt_at(bytes, tables, m.due < FIRST_REPLY, 0);
     let standing = a.standing;
     let why = a.why;
-    let n = larger(least, a.next);
+    let n = larger(held + 1, a.next);
     match standing {
         Standing::Taken => Step {
             marks: on_taken(m, n, bytes, a.len, kept),
@@ -212,7 +246,7 @@ fn decide(
             used: n,
             open: false,
         },
-        Standing::Failed => on_failed(m, bytes, n, why),
+        Standing::Failed => on_failed(m, bytes, held, n, why),
     }
 }
 
@@ -227,16 +261,16 @@ fn on_syn(m: Marks, byte: u8) -> Marks
     answers(m, m.start + 1, BUS_ERROR, m.start)
 }
 
-// One decision, or all the bytes in hand: of those that are there at least so many are used.
+// One decision, or all the bytes in hand: of those that are there so many were in hand before.
 pub(crate) fn turn(
     m: Marks,
     bytes: &[u8],
-    least: usize,
+    held: usize,
     tables: &[u8; 512],
     kept: &mut [u8; KEPT_ROOM],
 ) -> Step
-    requires { ⌜ EbusTables (now tables) × (1 ≤ least) × (least ≤ length (now bytes)) × (m .start + length (now bytes) ≤ limit) ⌝ }
-    ensures { λ r. ⌜ fedOf r (now (bytes .entry)) (now (kept .exit)) ≡ turnOn (stateOf m (now (kept .entry))) (now (bytes .entry)) least ⌝ }
+    requires { ⌜ EbusTables (now tables) × (held < length (now bytes)) × (m .start + length (now bytes) ≤ limit) ⌝ }
+    ensures { λ r. ⌜ fedOf r (now (bytes .entry)) (now (kept .exit)) ≡ turnOn (stateOf m (now (kept .entry))) (now (bytes .entry)) held ⌝ }
     ensures { λ r. ⌜ Ends r (now (bytes .entry)) ⌝ }
 {
     if SYN_DUE <= m.due {
@@ -246,5 +280,5 @@ pub(crate) fn turn(
             open: false,
         };
     }
-    decide(m, bytes, least, tables, kept)
+    decide(m, bytes, held, tables, kept)
 }

@@ -10,10 +10,8 @@ use crate::attempt::turn;
 use crate::marks::Marks;
 use crate::marks::marks_of;
 use crate::marks::with_marks;
-use beginning::passed_over;
 use checkbyte::ebus_tables;
 use exchange::judge::LIMIT;
-use listening::FIRST_COMMAND;
 use listening::Fed;
 use listening::HAND_ROOM;
 use listening::KEPT_ROOM;
@@ -25,14 +23,12 @@ use listening::heard;
 use lists::put;
 use lists::smaller;
 ghost use mathlib.Core.Path.{_≡_};
-ghost use mathlib.Core.List.{_++_};
 ghost use Prim.Native.Nat.{_+_, _≤_, _<_, min};
 ghost use lib.Dec.{eqb, ltb};
 ghost use lib.ListN.{length, take, replicate};
 ghost use Rattle.lists.specs.Choice.{pick};
-ghost use Rattle.beginning.specs.Beginning.{piece, passedOver};
 ghost use Rattle.exchange.specs.Exchange.{limit};
-ghost use Rattle.listening.specs.Listening.{firstCommand, handRoom, synDue, inHandNow, listened, fed};
+ghost use Rattle.listening.specs.Listening.{handRoom, synDue, inHandNow, listened, fed};
 ghost use Rattle.feeding.specs.Inner.{stateWith, stateOf, joinedRoom, joined};
 
 // Room for the bytes in hand and some of a run: more than can stay in hand, so that an attempt which
@@ -79,8 +75,8 @@ fn bytes_at<'a>(held: usize, both: &'a [u8], run: &'a [u8]) -> &'a [u8]
     both
 }
 
-// Decision after decision, with these bytes in hand before the run, none of which is thrown away, and
-// both joined. Bytes that stay in hand are put into `raw`.
+// Decision after decision, with these bytes in hand before the run, and both joined. Bytes that stay
+// in hand are put into `raw`.
 fn fed_on<'a>(
     first: Marks,
     hand: &[u8],
@@ -89,7 +85,7 @@ fn fed_on<'a>(
     raw: &mut [u8; HAND_ROOM],
     kept: &mut [u8; KEPT_ROOM],
 ) -> Left
-    requires { ⌜ (length (now hand) ≤ handRoom) × ((length (now hand) ≡ 0 → ⊥) → first .due < synDue) × ((length (now hand) ≡ 0 → ⊥) → 0 < length (now run)) × (first .start + length (now hand) + length (now run) ≤ limit) × ((length (now hand) ≡ 0 → ⊥) → now both ≡ joined (now hand) (now run)) × (now raw ≡ replicate handRoom 0) × (first .due ≡ firstCommand → piece (now hand ++ now run) ≤ length (now hand)) ⌝ }
+    requires { ⌜ (length (now hand) ≤ handRoom) × ((length (now hand) ≡ 0 → ⊥) → first .due < synDue) × (0 < length (now run)) × (first .start + length (now hand) + length (now run) ≤ limit) × ((length (now hand) ≡ 0 → ⊥) → now both ≡ joined (now hand) (now run)) × (now raw ≡ replicate handRoom 0) ⌝ }
     ensures { λ r. ⌜ record { state = stateWith (r .marks) (r .held) (now (raw .exit)) (now (kept .exit)); used = r .used } ≡ listened (inHandNow (stateOf first (now (kept .entry))) (now (hand .entry))) (now (run .entry)) ⌝ }
 {
     let tables = ebus_tables();
@@ -105,7 +101,7 @@ fn fed_on<'a>(
             };
         }
         let bytes = bytes_at(held, both, &run[i..]);
-        let t = turn(m, bytes, held + 1, &tables, kept);
+        let t = turn(m, bytes, held, &tables, kept);
         m = t.marks;
         if t.open {
             put(bytes, raw);
@@ -125,27 +121,6 @@ fn fed_on<'a>(
     }
 }
 
-// How many bytes of a run are thrown away at its beginning, with those in hand: SYN does so as long as
-// SRC or DST of the first command is not whole.
-fn thrown_away(due: u8, hand: &[u8], run: &[u8]) -> usize
-    ensures { λ r. ⌜ r ≡ pick (eqb due firstCommand) (passedOver (now (hand .entry)) (now (run .entry))) 0 ⌝ }
-{
-    if due == FIRST_COMMAND {
-        return passed_over(hand, run);
-    }
-    0
-}
-
-// How many bytes are in hand still, where so many of the run were thrown away.
-fn still_in_hand(thrown: usize, hand: usize) -> usize
-    ensures { λ r. ⌜ r ≡ pick (eqb thrown 0) hand 0 ⌝ }
-{
-    if thrown != 0 {
-        return 0;
-    }
-    hand
-}
-
 // Feeds a run to a state, byte after byte, until the answer is known: the state that it makes, and
 // how many bytes were used, which includes the one that decides. A state that has answered uses none,
 // and no byte behind the last that is read of a recording is used.
@@ -162,24 +137,21 @@ pub fn feed(state: Listening, run: &[u8]) -> Fed
     }
     let hand = attempt_length(state.due, state.held);
     let old = state.raw;
-    let i = thrown_away(state.due, &old[..hand], &run[..n]);
-    let held = still_in_hand(i, hand);
-    let rest = &run[i..n];
     let mut kept = state.kept;
     let mut both = [0u8; JOINED];
-    join(&old, held, rest, &mut both);
-    let joined = smaller(JOINED, held + rest.len());
+    join(&old, hand, &run[..n], &mut both);
+    let joined = smaller(JOINED, hand + n);
     let mut raw = [0u8; HAND_ROOM];
     let left = fed_on(
-        marks_of(state, end - held + i),
-        &old[..held],
+        marks_of(state, end - hand),
+        &old[..hand],
         &both[..joined],
-        rest,
+        &run[..n],
         &mut raw,
         &mut kept,
     );
     Fed {
         state: with_marks(left.marks, left.held, raw, kept),
-        used: i + left.used,
+        used: left.used,
     }
 }

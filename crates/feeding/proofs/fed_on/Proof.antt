@@ -25,7 +25,7 @@ ebus-tables-requires : tie.Need-ebus-tables-requires Inv-loop μ-loop
 ebus-tables-requires c κs = search needs
 
 loop-holds : tie.Need-loop-holds Inv-loop μ-loop
-loop-holds c = (turns-start (c .before .before .before .before .args .first) (c .before .before .before .before .args .kept .now) (c .before .before .before .before .args .run .now) (c .before .before .before .before .args .hand .now) (c .before .before .before .before .pre .1) (c .before .before .before .before .pre .3) (c .before .before .before .before .pre .6), c .before .before .before .before .pre .5)
+loop-holds c = (turns-start (c .before .before .before .before .args .first) (c .before .before .before .before .args .kept .now) (c .before .before .before .before .args .run .now) (c .before .before .before .before .args .hand .now) (c .before .before .before .before .pre .1) (c .before .before .before .before .pre .3), c .before .before .before .before .pre .5)
 
 returns : tie.Need-returns Inv-loop μ-loop
 returns c = ap (λ (x : List ℕ). record { state = stateWith (c .before .before .before .loop .m) 0 x (c .before .before .before .loop .kept); used = c .before .before .before .loop .i }) (c .before .before .before .loop .inv .1) ∙ turns-answered _ _ _ _ _ _ _ (c .before .before .before .loop .inv .0) (c .before .before .loop-test .taken) (c .if1 .taken)
@@ -42,11 +42,8 @@ part-bytes-at-end c = omega (arith, c .before .before .loop-test .taken)
 bytes-at-requires : tie.Need-bytes-at-requires Inv-loop μ-loop
 bytes-at-requires c κs = search needs
 
-add-turn : tie.Need-add-turn Inv-loop μ-loop
-add-turn c = omega (arith, c .before .before .before .before .before .loop .inv .0 .most)
-
 turn-requires : tie.Need-turn-requires Inv-loop μ-loop
-turn-requires c κs = (c .before .before .before .before .before .before .before .before .ebus-tables .ensures, omega arith, turn-least _ (c .before .before .before .before .before .before .before .before .before .before .before .before .args .run .now) (c .before .before .before .before .before .before .before .before .before .before .before .before .args .hand .now) (c .before .before .before .before .before .before .before .loop .m) _ (c .before .before .before .before .before .before .before .loop .held) (c .before .before .before .before .before .before .before .loop .i) (c .before .before .before .before .before .before .before .before .before .before .before .before .pre .0) (c .before .before .before .before .before .before .before .loop .inv .0) (c .before .before .before .before .before .before .loop-test .taken) (c .before .before .before .before .before .before .before .before .before .before .before .before .args .both .now) (c .before .before .bytes-at .result .now) (c .before .before .before .before .before .before .before .before .before .before .before .before .pre .4) (c .before .before .bytes-at .ensures), turn-bound _ (c .before .before .before .before .before .before .before .before .before .before .before .before .args .run .now) (c .before .before .before .before .before .before .before .before .before .before .before .before .args .hand .now) (c .before .before .before .before .before .before .before .loop .m) _ (c .before .before .before .before .before .before .before .loop .held) (c .before .before .before .before .before .before .before .loop .i) (c .before .before .before .before .before .before .before .before .before .before .before .before .pre .0) (c .before .before .before .before .before .before .before .loop .inv .0) (c .before .before .before .before .before .before .loop-test .taken) (c .before .before .before .before .before .before .before .before .before .before .before .before .args .both .now) (c .before .before .bytes-at .result .now) (c .before .before .before .before .before .before .before .before .before .before .before .before .pre .4) (c .before .before .bytes-at .ensures))
+turn-requires c κs = (c .before .before .before .before .before .before .before .before .ebus-tables .ensures, turn-least _ (c .before .before .before .before .before .before .before .before .before .before .before .before .args .run .now) (c .before .before .before .before .before .before .before .before .before .before .before .before .args .hand .now) (c .before .before .before .before .before .before .before .loop .m) _ (c .before .before .before .before .before .before .before .loop .held) (c .before .before .before .before .before .before .before .loop .i) (c .before .before .before .before .before .before .before .before .before .before .before .before .pre .0) (c .before .before .before .before .before .before .before .loop .inv .0) (c .before .before .before .before .before .before .loop-test .taken) (c .before .before .before .before .before .before .before .before .before .before .before .before .args .both .now) (c .before .before .bytes-at .result .now) (c .before .before .before .before .before .before .before .before .before .before .before .before .pre .4) (c .before .before .bytes-at .ensures), turn-bound _ (c .before .before .before .before .before .before .before .before .before .before .before .before .args .run .now) (c .before .before .before .before .before .before .before .before .before .before .before .before .args .hand .now) (c .before .before .before .before .before .before .before .loop .m) _ (c .before .before .before .before .before .before .before .loop .held) (c .before .before .before .before .before .before .before .loop .i) (c .before .before .before .before .before .before .before .before .before .before .before .before .pre .0) (c .before .before .before .before .before .before .before .loop .inv .0) (c .before .before .before .before .before .before .loop-test .taken) (c .before .before .before .before .before .before .before .before .before .before .before .before .args .both .now) (c .before .before .bytes-at .result .now) (c .before .before .before .before .before .before .before .before .before .before .before .before .pre .4) (c .before .before .bytes-at .ensures))
 
 put-requires : tie.Need-put-requires Inv-loop μ-loop
 put-requires c κs = search needs
@@ -92,7 +89,6 @@ fed-on-spec =
     part-bytes-at-start
     part-bytes-at-end
     bytes-at-requires
-    add-turn
     turn-requires
     put-requires
     cast-t25

@@ -23,8 +23,8 @@ returns c =
     let kept = c .before .before .before .before .before .args .kept .now in
     let s = stateOf (c .before .before .before .before .before .args .m) kept in (
       ap (λ (x : Listening). record { state = x; used = 1 }) (c .on-syn .ensures kept)
-          ∙ sym (by-due s (c .before .before .before .before .before .args .bytes .now) (c .before .before .before .before .before .args .least) false (le-ltb (c .before .before .before .before .before .args .m .due) synDue (c .before .before .if1 .taken))),
-      λ held. absurd (shut-ends held),
+          ∙ sym (by-due s (c .before .before .before .before .before .args .bytes .now) (c .before .before .before .before .before .args .held) false (le-ltb (c .before .before .before .before .before .args .m .due) synDue (c .before .before .if1 .taken))),
+      λ opened. absurd (shut-ends opened),
     )
 
 decide-requires : tie.Need-decide-requires
@@ -33,7 +33,7 @@ decide-requires c κs = search needs
 returns-2 : tie.Need-returns-2
 returns-2 c =
     let s = stateOf (c .before .before .before .before .before .args .m) (c .before .before .before .before .before .args .kept .now) in
-    (c .decide .ensures .0 ∙ sym (by-due s (c .before .before .before .before .before .args .bytes .now) (c .before .before .before .before .before .args .least) true (lt-ltb (c .before .before .before .before .before .args .m .due) synDue (c .before .before .if1 .left))), c .decide .ensures .1)
+    (c .decide .ensures .0 ∙ sym (by-due s (c .before .before .before .before .before .args .bytes .now) (c .before .before .before .before .before .args .held) true (lt-ltb (c .before .before .before .before .before .args .m .due) synDue (c .before .before .if1 .left))), c .decide .ensures .1)
 
 pub turn-spec : {M : Type 1} → statement M
 turn-spec =
