@@ -1,6 +1,7 @@
 /*
  * every_call.c - every function of moortinker.h on the worked examples of
- * docs/RULES.md (W1 to W14) and on its edges.
+ * docs/RULES.md (W1 to W14), on the event frames that document 000 prints, and
+ * on its edges.
  *
  * Each call prints a line with what it gave. What it gave is compared with
  * what they say; a difference is printed below the line. The last line
@@ -94,6 +95,46 @@ AT(moor_scanned, place, 8);
 AT(moor_scanned, requests, 16);
 AT(moor_scanned, found, 24);
 
+SIZE(moor_event_request_read, 16);
+AT(moor_event_request_read, number, 0);
+AT(moor_event_request_read, minimum, 1);
+AT(moor_event_request_read, most, 2);
+AT(moor_event_request_read, confirmed, 3);
+AT(moor_event_request_read, flag, 4);
+AT(moor_event_request_read, place, 8);
+
+SIZE(moor_events_read, 32);
+AT(moor_events_read, number, 0);
+AT(moor_events_read, answer, 1);
+AT(moor_events_read, sender, 2);
+AT(moor_events_read, flag, 3);
+AT(moor_events_read, queued, 4);
+AT(moor_events_read, size, 5);
+AT(moor_events_read, place, 8);
+AT(moor_events_read, listed, 16);
+AT(moor_events_read, first, 24);
+
+SIZE(moor_event, 24);
+AT(moor_event, whole, 0);
+AT(moor_event, kind, 1);
+AT(moor_event, size, 2);
+AT(moor_event, identifier, 4);
+AT(moor_event, start, 8);
+AT(moor_event, next, 16);
+
+SIZE(moor_added, 16);
+AT(moor_added, number, 0);
+AT(moor_added, place, 8);
+
+SIZE(moor_polled, 24);
+AT(moor_polled, number, 0);
+AT(moor_polled, answer, 1);
+AT(moor_polled, sender, 2);
+AT(moor_polled, flag, 3);
+AT(moor_polled, events, 4);
+AT(moor_polled, place, 8);
+AT(moor_polled, length, 16);
+
 /* ---- Counting ------------------------------------------------------------ */
 
 static unsigned held;
@@ -128,7 +169,7 @@ static const bytes none = {NULL, 0};
 #define FILL 0x5A
 
 /* Lent outputs: calls are lent the first bytes, and must keep to them. */
-#define MOST 64
+#define MOST 128
 static uint8_t out[MOST];
 
 static void fill(uint8_t *buffer)
@@ -1261,6 +1302,555 @@ static void scans(void)
     EXPECT(marked(&t, 0, 2, 0));
 }
 
+/* ---- Event frames -------------------------------------------------------- */
+
+/* As document 000 prints them, with their checks. */
+#define EVENT_REQUEST_FRAME 0xFD, 0x46, 0x10, 0x00, 0x64, 0x0A, 0x01, 0x7E, 0x15
+#define CHANGE_FRAME \
+    0x05, 0x46, 0x11, 0x01, 0x01, 0x06, 0x02, 0x04, 0x01, 0xD0, 0x04, 0x00, 0x2B, 0xAC
+#define NO_EVENTS_FRAME 0xFD, 0x46, 0x12, 0x52, 0x5D
+
+static void read_event_request(bytes frame, moor_event_request_read must)
+{
+    moor_event_request_read got = moor_read_event_request(frame.start, frame.length);
+    print_call("moor_read_event_request", frame);
+    if (got.number != MOOR_ACCEPTED)
+        print_refused(got.number, got.place);
+    else
+        printf("from id %u on, at most %u bytes, confirming %u with flag %u\n", got.minimum,
+               got.most, got.confirmed, got.flag);
+    EXPECT(got.number == must.number);
+    EXPECT(got.minimum == must.minimum);
+    EXPECT(got.most == must.most);
+    EXPECT(got.confirmed == must.confirmed);
+    EXPECT(got.flag == must.flag);
+    EXPECT(got.place == must.place);
+}
+
+static void read_events(bytes frame, moor_events_read must)
+{
+    moor_events_read got = moor_read_events(frame.start, frame.length);
+    print_call("moor_read_events", frame);
+    if (got.number != MOOR_ACCEPTED)
+        print_refused(got.number, got.place);
+    else if (got.answer == MOOR_PACKET)
+        printf("%zu of %u events of %u, flag %u\n", got.listed, got.queued, got.sender, got.flag);
+    else
+        printf("no events\n");
+    EXPECT(got.number == must.number);
+    EXPECT(got.answer == must.answer);
+    EXPECT(got.sender == must.sender);
+    EXPECT(got.flag == must.flag);
+    EXPECT(got.queued == must.queued);
+    EXPECT(got.size == must.size);
+    EXPECT(got.place == must.place);
+    EXPECT(got.listed == must.listed);
+    EXPECT(got.first == must.first);
+}
+
+#define NO_EVENT_REQUEST(why, where) \
+    ((moor_event_request_read){.number = (why), .place = (where)})
+#define NOTHING_READ(why, where) ((moor_events_read){.number = (why), .place = (where)})
+
+static void event_requests_read(void)
+{
+    read_event_request(BYTES(EVENT_REQUEST_FRAME),
+                       (moor_event_request_read){.most = 100, .confirmed = 10, .flag = 1});
+    read_event_request(BYTES(0xFD, 0x46, 0x10, 0x01, 0x02, 0x03, 0x04, 0x59, 0xA5),
+                       (moor_event_request_read){
+                           .minimum = 1, .most = 2, .confirmed = 3, .flag = 4});
+    read_event_request(none, NO_EVENT_REQUEST(MOOR_FRAME_LENGTH, 0));
+    read_event_request(BYTES(0xFD, 0x46, 0x10, 0x00), NO_EVENT_REQUEST(MOOR_FRAME_LENGTH, 0));
+    read_event_request(BYTES(0xFD, 0x46, 0x10, 0x00, 0x64, 0x0A, 0x01, 0x7E),
+                       NO_EVENT_REQUEST(MOOR_FRAME_LENGTH, 0));
+    read_event_request(BYTES(EVENT_REQUEST_FRAME, 0x00), NO_EVENT_REQUEST(MOOR_FRAME_LENGTH, 0));
+    read_event_request(BYTES(0xFF, EVENT_REQUEST_FRAME), NO_EVENT_REQUEST(MOOR_FRAME_HEAD, 0));
+    read_event_request(BYTES(0xFD, 0x47, 0x10, 0x00, 0x00), NO_EVENT_REQUEST(MOOR_FRAME_HEAD, 1));
+    read_event_request(BYTES(START_FRAME), NO_EVENT_REQUEST(MOOR_SUBCOMMAND_WRONG, 2));
+    read_event_request(BYTES(0xFD, 0x46, 0x10, 0x00, 0x64, 0x0A, 0x01, 0x7E, 0x16),
+                       NO_EVENT_REQUEST(MOOR_FRAME_CHECK, 7));
+    read_request(BYTES(EVENT_REQUEST_FRAME), NO_REQUEST(MOOR_SUBCOMMAND_WRONG, 2));
+}
+
+static void events_read(void)
+{
+    moor_events_read change = {.answer = MOOR_PACKET, .sender = 5, .flag = 1, .queued = 1,
+                               .size = 6, .listed = 1, .first = 6};
+    moor_events_read no_events = {.answer = MOOR_NO_EVENTS};
+    read_events(BYTES(CHANGE_FRAME), change);
+    read_events(BYTES(NO_EVENTS_FRAME), no_events);
+    read_events(BYTES(0xFF, 0xFF, 0xFF, NO_EVENTS_FRAME), no_events);
+    change.first = 8;
+    read_events(BYTES(0xFF, 0xFF, CHANGE_FRAME), change);
+    read_events(BYTES(0x05, 0x46, 0x11, 0x00, 0x00, 0x00, 0x8C, 0xBD),
+                (moor_events_read){.answer = MOOR_PACKET, .sender = 5, .first = 6});
+    read_events(BYTES(0x05, 0x46, 0x11, 0x00, 0x03, 0x09, 0x00, 0x0F, 0x00, 0x00, 0x01, 0x02,
+                      0x00, 0x04, 0x01, 0x9E, 0x78),
+                (moor_events_read){.answer = MOOR_PACKET, .sender = 5, .queued = 3, .size = 9,
+                                   .listed = 2, .first = 6});
+}
+
+static void events_not_read(void)
+{
+    read_events(none, NOTHING_READ(MOOR_FRAME_LENGTH, 0));
+    read_events(BYTES(FF_6), NOTHING_READ(MOOR_FRAME_LENGTH, 0));
+    read_events(BYTES(NO_EVENTS_FRAME, 0x00), NOTHING_READ(MOOR_FRAME_LENGTH, 0));
+    read_events(BYTES(0x05, 0x46, 0x11, 0x00, 0x00), NOTHING_READ(MOOR_FRAME_LENGTH, 0));
+    read_events(BYTES(CHANGE_FRAME, 0x00), NOTHING_READ(MOOR_FRAME_LENGTH, 0));
+    /* An event that would reach into the check; one listed, none queued. */
+    read_events(BYTES(0x05, 0x46, 0x11, 0x00, 0x01, 0x04, 0x01, 0x0F, 0x00, 0x00, 0x7B, 0x5A),
+                NOTHING_READ(MOOR_FRAME_LENGTH, 0));
+    read_events(BYTES(0x05, 0x46, 0x11, 0x00, 0x00, 0x04, 0x00, 0x0F, 0x00, 0x00, 0x7B, 0x77),
+                NOTHING_READ(MOOR_FRAME_LENGTH, 0));
+    read_events(BYTES(0xFF, 0x00, 0x46, 0x11, 0x00, 0x00), NOTHING_READ(MOOR_FRAME_HEAD, 1));
+    read_events(BYTES(0xFF, 0xF8, 0x46, 0x11, 0x00, 0x00), NOTHING_READ(MOOR_FRAME_HEAD, 1));
+    read_events(BYTES(0xF7, 0x47, 0x11, 0x00, 0x00), NOTHING_READ(MOOR_FRAME_HEAD, 1));
+    read_events(BYTES(0xFD, 0x46, 0x11, 0x00, 0x00), NOTHING_READ(MOOR_SUBCOMMAND_WRONG, 2));
+    read_events(BYTES(0xF7, 0x46, 0x12, 0x00, 0x00), NOTHING_READ(MOOR_SUBCOMMAND_WRONG, 2));
+    read_events(BYTES(EVENT_REQUEST_FRAME), NOTHING_READ(MOOR_SUBCOMMAND_WRONG, 2));
+    read_events(BYTES(0xFF, 0xFD, 0x46, 0x12, 0x52, 0x5E), NOTHING_READ(MOOR_FRAME_CHECK, 4));
+    read_events(BYTES(0x05, 0x46, 0x11, 0x01, 0x01, 0x06, 0x02, 0x04, 0x01, 0xD0, 0x04, 0x00,
+                      0x2C, 0xAC),
+                NOTHING_READ(MOOR_FRAME_CHECK, 12));
+}
+
+static void event_at(bytes input, size_t at, moor_event must)
+{
+    moor_event got = moor_event_at(input.start, input.length, at);
+    print_call("moor_event_at", input);
+    if (got.whole)
+        printf("at %zu: type %u of %04X, %u bytes from %zu, next %zu\n", at, got.kind,
+               got.identifier, got.size, got.start, got.next);
+    else
+        printf("at %zu: no whole event\n", at);
+    EXPECT(got.whole == must.whole);
+    EXPECT(got.kind == must.kind);
+    EXPECT(got.size == must.size);
+    EXPECT(got.identifier == must.identifier);
+    EXPECT(got.start == must.start);
+    EXPECT(got.next == must.next);
+}
+
+static void events_at(void)
+{
+    moor_event no_event = {.whole = 0};
+    bytes two = BYTES(0x00, 0x0F, 0x00, 0x00, 0x02, 0x04, 0x01, 0xD0, 0x04, 0x00);
+    event_at(BYTES(CHANGE_FRAME), 6, (moor_event){1, 4, 2, 0x01D0, 10, 12});
+    event_at(two, 0, (moor_event){1, 0x0F, 0, 0, 4, 4});
+    event_at(two, 4, (moor_event){1, 4, 2, 0x01D0, 8, 10});
+    event_at((bytes){two.start, 9}, 4, no_event);
+    event_at(two, 7, no_event);
+    event_at(two, 10, no_event);
+    event_at(two, SIZE_MAX, no_event);
+    event_at(none, 0, no_event);
+}
+
+static void write_event_request(uint8_t minimum, uint8_t most, uint8_t confirmed, uint8_t flag,
+                                size_t room, outcome must)
+{
+    fill(out);
+    moor_written got = moor_write_event_request(minimum, most, confirmed, flag, out, room);
+    printf("moor_write_event_request %u %u %u %u -> ", minimum, most, confirmed, flag);
+    written(got, must);
+}
+
+static void write_no_events(size_t room, outcome must)
+{
+    fill(out);
+    moor_written got = moor_write_no_events(out, room);
+    printf("moor_write_no_events -> ");
+    written(got, must);
+}
+
+static void event_frames_written(void)
+{
+    write_event_request(0, 100, 10, 1, 9, WROTE(EVENT_REQUEST_FRAME));
+    write_event_request(0, 100, 10, 1, 8, REFUSED(MOOR_OUTPUT_SHORT, 0));
+    write_event_request(1, 2, 3, 4, MOST,
+                        WROTE(0xFD, 0x46, 0x10, 0x01, 0x02, 0x03, 0x04, 0x59, 0xA5));
+    write_no_events(5, WROTE(NO_EVENTS_FRAME));
+    write_no_events(4, REFUSED(MOOR_OUTPUT_SHORT, 0));
+}
+
+/* ---- Event queues and polls ---------------------------------------------- */
+
+/* A device table of three with its event queues. */
+typedef struct {
+    uint32_t serials[3];
+    uint8_t addresses[3];
+    uint8_t marks[3];
+    uint8_t flags[3];
+    uint8_t lasts[3];
+    uint8_t counts[3];
+    uint8_t slots[3 * MOOR_SLOTS_LENGTH];
+} bus;
+
+#define QUEUES(b)                                                                              \
+    (b).serials, 3, (b).addresses, 3, (b).marks, 3, (b).flags, 3, (b).lasts, 3, (b).counts, 3, \
+        (b).slots, 3 * MOOR_SLOTS_LENGTH
+#define NO_QUEUES NO_COLUMNS, NULL, 0, NULL, 0, NULL, 0, NULL, 0
+
+/* Fresh devices with the ids 5, 10 and 32. */
+static bus fresh(void)
+{
+    bus b = {.serials = {7, 5, 9}, .addresses = {5, 10, 32}};
+    memset(b.slots, FILL, sizeof b.slots);
+    return b;
+}
+
+/* Whether two tables and their queues are the same to the last byte. */
+static bool same(const bus *a, const bus *b)
+{
+    return memcmp(a->serials, b->serials, sizeof a->serials) == 0 &&
+           memcmp(a->addresses, b->addresses, sizeof a->addresses) == 0 &&
+           memcmp(a->marks, b->marks, sizeof a->marks) == 0 &&
+           memcmp(a->flags, b->flags, sizeof a->flags) == 0 &&
+           memcmp(a->lasts, b->lasts, sizeof a->lasts) == 0 &&
+           memcmp(a->counts, b->counts, sizeof a->counts) == 0 &&
+           memcmp(a->slots, b->slots, sizeof a->slots) == 0;
+}
+
+/* Whether a device has this flag, so many events in its last packet, and so
+ * many queued. */
+static bool stands(const bus *b, size_t device, uint8_t flag, uint8_t last, uint8_t count)
+{
+    return b->flags[device] == flag && b->lasts[device] == last && b->counts[device] == count;
+}
+
+static uint8_t *slot_of(bus *b, size_t device, size_t slot)
+{
+    return b->slots + device * MOOR_SLOTS_LENGTH + slot * MOOR_SLOT_LENGTH;
+}
+
+/* Whether a slot starts with these bytes. */
+static bool slot_starts(bus *b, size_t device, size_t slot, bytes with)
+{
+    return memcmp(slot_of(b, device, slot), with.start, with.length) == 0;
+}
+
+#define QUEUES_VALID(why, must, ...)                                       \
+    do {                                                                   \
+        bool got = moor_queues_valid(__VA_ARGS__);                         \
+        printf("moor_queues_valid, %s -> %s\n", why, got ? "yes" : "no");  \
+        EXPECT(got == (must));                                             \
+    } while (0)
+
+static void tables_of_queues(void)
+{
+    bus b = fresh();
+    QUEUES_VALID("three fresh devices", true, QUEUES(b));
+    QUEUES_VALID("no device", true, NO_QUEUES);
+    QUEUES_VALID("no slots", false, COLUMNS(b), b.flags, 3, b.lasts, 3, b.counts, 3, NULL, 0);
+    QUEUES_VALID("a slot's byte less", false, COLUMNS(b), b.flags, 3, b.lasts, 3, b.counts, 3,
+                 b.slots, 3 * MOOR_SLOTS_LENGTH - 1);
+    QUEUES_VALID("a flag less", false, COLUMNS(b), b.flags, 2, b.lasts, 3, b.counts, 3, b.slots,
+                 3 * MOOR_SLOTS_LENGTH);
+    QUEUES_VALID("a last packet less", false, COLUMNS(b), b.flags, 3, b.lasts, 2, b.counts, 3,
+                 b.slots, 3 * MOOR_SLOTS_LENGTH);
+    QUEUES_VALID("no numbers queued", false, COLUMNS(b), b.flags, 3, b.lasts, 3, NULL, 0, b.slots,
+                 3 * MOOR_SLOTS_LENGTH);
+    b.marks[0] = 2;
+    QUEUES_VALID("a mark of 2", false, QUEUES(b));
+    b = fresh();
+    b.addresses[0] = 10;
+    QUEUES_VALID("an id twice", false, QUEUES(b));
+    b.addresses[0] = 0;
+    QUEUES_VALID("id 0", false, QUEUES(b));
+    b.addresses[0] = 247;
+    QUEUES_VALID("id 247", true, QUEUES(b));
+    b.addresses[0] = 248;
+    QUEUES_VALID("id 248", false, QUEUES(b));
+}
+
+static void entries_of_queues(void)
+{
+    bus b = fresh();
+    b.flags[1] = 1;
+    QUEUES_VALID("a flag of 1", true, QUEUES(b));
+    b.flags[1] = 2;
+    QUEUES_VALID("a flag of 2", false, QUEUES(b));
+    b = fresh();
+    memset(slot_of(&b, 1, 0), 0, MOOR_SLOTS_LENGTH);
+    b.counts[1] = MOOR_MOST_QUEUED;
+    b.lasts[1] = MOOR_MOST_QUEUED;
+    QUEUES_VALID("8 events, all of them sent", true, QUEUES(b));
+    b.counts[1] = MOOR_MOST_QUEUED + 1;
+    QUEUES_VALID("9 events", false, QUEUES(b));
+    b.counts[1] = MOOR_MOST_QUEUED - 1;
+    QUEUES_VALID("7 events, 8 of them sent", false, QUEUES(b));
+    b.lasts[1] = 0;
+    slot_of(&b, 1, 6)[0] = 1;
+    slot_of(&b, 1, 6)[1] = MOOR_MOST_DATA;
+    QUEUES_VALID("an urgent event of 8 bytes", true, QUEUES(b));
+    slot_of(&b, 1, 6)[1] = MOOR_MOST_DATA + 1;
+    QUEUES_VALID("an event of 9 bytes", false, QUEUES(b));
+    slot_of(&b, 1, 6)[1] = 0;
+    slot_of(&b, 1, 6)[0] = 2;
+    QUEUES_VALID("urgent 2", false, QUEUES(b));
+    b.counts[1] = 6;
+    QUEUES_VALID("the same behind the queued ones", true, QUEUES(b));
+}
+
+/* A new event of type 4. A refusal leaves everything as it was. */
+static void add_event(bus *b, uint8_t id, uint8_t urgent, uint16_t identifier, bytes data,
+                      uint8_t must)
+{
+    bus before = *b;
+    moor_added got = moor_add_event(QUEUES(*b), id, urgent, 4, identifier, data.start,
+                                    data.length);
+    printf("moor_add_event for %u, %s, %04X", id, urgent ? "urgent" : "normal", identifier);
+    print_call(",", data);
+    if (got.number != MOOR_ACCEPTED)
+        print_refused(got.number, got.place);
+    else
+        printf("added\n");
+    EXPECT(got.number == must);
+    EXPECT(got.place == 0);
+    EXPECT(must == MOOR_ACCEPTED || same(b, &before));
+}
+
+static void events_added(void)
+{
+    bus b = fresh();
+    bytes eight = BYTES(1, 2, 3, 4, 5, 6, 7, 8);
+    bytes nine = BYTES(1, 2, 3, 4, 5, 6, 7, 8, 9);
+    add_event(&b, 10, 0, 0x01D0, BYTES(0x04, 0x00), MOOR_ACCEPTED);
+    add_event(&b, 10, 0xFF, 0xFFFE, eight, MOOR_ACCEPTED);
+    add_event(&b, 10, 0, 3, none, MOOR_ACCEPTED);
+    bus must = fresh();
+    must.counts[1] = 3;
+    memcpy(slot_of(&must, 1, 0), (uint8_t[]){0, 2, 4, 0x01, 0xD0, 0x04, 0x00}, 7);
+    memcpy(slot_of(&must, 1, 1), (uint8_t[]){1, 8, 4, 0xFF, 0xFE, 1, 2, 3, 4, 5, 6, 7, 8}, 13);
+    memcpy(slot_of(&must, 1, 2), (uint8_t[]){0, 0, 4, 0x00, 0x03}, 5);
+    EXPECT(same(&b, &must));
+    add_event(&b, 10, 0, 4, nine, MOOR_FRAME_LENGTH);
+    add_event(&b, 11, 0, 4, none, MOOR_FRAME_LENGTH);
+    add_event(&b, 0, 0, 4, none, MOOR_FRAME_LENGTH);
+    for (uint16_t i = 3; i < MOOR_MOST_QUEUED; i++)
+        add_event(&b, 10, 0, i, eight, MOOR_ACCEPTED);
+    EXPECT(stands(&b, 1, 0, 0, MOOR_MOST_QUEUED));
+    add_event(&b, 10, 0, 8, none, MOOR_QUEUE_FULL);
+    add_event(&b, 10, 0, 8, nine, MOOR_FRAME_LENGTH);
+    add_event(&b, 5, 0, 8, none, MOOR_ACCEPTED);
+    b.flags[2] = 2;
+    add_event(&b, 10, 0, 8, none, MOOR_TABLE_NOT_VALID);
+    add_event(&b, 11, 0, 8, nine, MOOR_TABLE_NOT_VALID);
+    moor_added nobody = moor_add_event(NO_QUEUES, 5, 0, 4, 1, NULL, 0);
+    printf("moor_add_event, no device -> ");
+    print_refused(nobody.number, nobody.place);
+    EXPECT(nobody.number == MOOR_FRAME_LENGTH);
+}
+
+/* Holds a poll to what it must give: what was heard, and the bytes. */
+static void polled(moor_polled got, moor_polled must, bytes wrote)
+{
+    if (got.number != MOOR_ACCEPTED) {
+        print_refused(got.number, got.place);
+    } else if (got.answer == 0) {
+        printf("silence\n");
+    } else {
+        printf("%s of %u, flag %u, %u events, %zu bytes:",
+               got.answer == MOOR_PACKET ? "packet" : "no events", got.sender, got.flag,
+               got.events, got.length);
+        print_bytes((bytes){out, got.length < MOST ? got.length : MOST});
+        printf("\n");
+    }
+    EXPECT(got.number == must.number);
+    EXPECT(got.answer == must.answer);
+    EXPECT(got.sender == must.sender);
+    EXPECT(got.flag == must.flag);
+    EXPECT(got.events == must.events);
+    EXPECT(got.place == must.place);
+    EXPECT(got.length == wrote.length);
+    EXPECT(starts(out, wrote));
+}
+
+static void poll_devices(bus *b, uint8_t minimum, uint8_t most, uint8_t confirmed, uint8_t flag,
+                         moor_polled must, bytes wrote)
+{
+    fill(out);
+    moor_polled got = moor_poll(minimum, most, confirmed, flag, QUEUES(*b), out, MOOR_POLL_ROOM);
+    printf("moor_poll %u %u %u %u -> ", minimum, most, confirmed, flag);
+    polled(got, must, wrote);
+}
+
+static void offer_poll(bytes frame, bus *b, moor_polled must, bytes wrote)
+{
+    fill(out);
+    moor_polled got = moor_offer_poll(frame.start, frame.length, QUEUES(*b), out, MOOR_POLL_ROOM);
+    print_call("moor_offer_poll", frame);
+    polled(got, must, wrote);
+}
+
+#define SENT(id, which, number_of) \
+    ((moor_polled){.answer = MOOR_PACKET, .sender = (id), .flag = (which), .events = (number_of)})
+#define NOBODY_HAS(id) ((moor_polled){.answer = MOOR_NO_EVENTS, .sender = (id)})
+#define NOT_POLLED(why, where) ((moor_polled){.number = (why), .place = (where)})
+#define QUIET ((moor_polled){.number = MOOR_ACCEPTED})
+
+/* The printed packet is sent for the printed request, and then confirmed: one
+ * FF for each zero bit of 105, and then of F05. */
+static void printed_packet_polled(void)
+{
+    bus b = fresh();
+    b.flags[0] = 1;
+    add_event(&b, 5, 0, 0x01D0, BYTES(0x04, 0x00), MOOR_ACCEPTED);
+    offer_poll(BYTES(EVENT_REQUEST_FRAME), &b, SENT(5, 1, 1),
+               BYTES(FF_6, 0xFF, 0xFF, 0xFF, CHANGE_FRAME));
+    EXPECT(stands(&b, 0, 1, 1, 1));
+    poll_devices(&b, 0, 100, 5, 1, NOBODY_HAS(5), BYTES(FF_6, NO_EVENTS_FRAME));
+    EXPECT(stands(&b, 0, 0, 0, 0));
+    EXPECT(stands(&b, 1, 0, 0, 0));
+    EXPECT(stands(&b, 2, 0, 0, 0));
+}
+
+/* Device 5 has two normal events of 4 and 5 bytes, device 32 an urgent one. */
+static bus waiting(void)
+{
+    bus b = fresh();
+    add_event(&b, 5, 0, 1, none, MOOR_ACCEPTED);
+    add_event(&b, 5, 0, 2, BYTES(0xAB), MOOR_ACCEPTED);
+    add_event(&b, 32, 1, 2, BYTES(0xAB), MOOR_ACCEPTED);
+    return b;
+}
+
+#define URGENT_PACKET 0x20, 0x46, 0x11, 0x00, 0x01, 0x05, 0x01, 0x04, 0x00, 0x02, 0xAB, 0xE3, 0x05
+#define FIRST_OF_TWO 0x05, 0x46, 0x11, 0x00, 0x02, 0x04, 0x00, 0x04, 0x00, 0x01, 0xCA, 0x97
+#define BOTH_OF_TWO \
+    0x05, 0x46, 0x11, 0x00, 0x02, 0x09, 0x00, 0x04, 0x00, 0x01, 0x01, 0x04, 0x00, 0x02, 0xAB, \
+        0x59, 0xB1
+#define SECOND_OF_TWO 0x05, 0x46, 0x11, 0x01, 0x01, 0x05, 0x01, 0x04, 0x00, 0x02, 0xAB, 0x98, 0xC5
+#define FF_9 FF_6, 0xFF, 0xFF, 0xFF
+
+static void events_polled(void)
+{
+    bus b = waiting();
+    bytes urgent = BYTES(FF_10, 0xFF, URGENT_PACKET);
+    bytes first = BYTES(FF_9, FIRST_OF_TWO);
+    poll_devices(&b, 0, 255, 0, 0, SENT(32, 0, 1), urgent);
+    /* It comes again until it is confirmed; with another flag it is not. */
+    poll_devices(&b, 0, 255, 32, 1, SENT(32, 0, 1), urgent);
+    poll_devices(&b, 0, 255, 32, 2, SENT(32, 0, 1), urgent);
+    EXPECT(stands(&b, 2, 0, 1, 1));
+    poll_devices(&b, 0, 255, 32, 0, SENT(5, 0, 2), BYTES(FF_9, BOTH_OF_TWO));
+    EXPECT(stands(&b, 2, 1, 0, 0));
+    /* As many as fit; what is sent again is the last packet. */
+    poll_devices(&b, 0, 9, 0, 0, SENT(5, 0, 2), BYTES(FF_9, BOTH_OF_TWO));
+    poll_devices(&b, 0, 8, 0, 0, SENT(5, 0, 1), first);
+    poll_devices(&b, 0, 4, 5, 1, SENT(5, 0, 1), first);
+    EXPECT(stands(&b, 0, 0, 1, 2));
+    poll_devices(&b, 0, 8, 5, 0, SENT(5, 1, 1), BYTES(FF_9, SECOND_OF_TWO));
+    EXPECT(stands(&b, 0, 1, 1, 1));
+    EXPECT(slot_starts(&b, 0, 0, BYTES(0, 1, 4, 0x00, 0x02, 0xAB)));
+    /* The first packet was confirmed: no flag but 1 confirms now. */
+    poll_devices(&b, 0, 8, 5, 0, SENT(5, 1, 1), BYTES(FF_9, SECOND_OF_TWO));
+    EXPECT(stands(&b, 0, 1, 1, 1));
+}
+
+static void devices_that_do_not_answer(void)
+{
+    bus b = waiting();
+    bytes nobody_10 = BYTES(FF_6, NO_EVENTS_FRAME); /* F0A */
+    /* Below the minimum; nothing that fits; both. */
+    poll_devices(&b, 33, 255, 0, 0, QUIET, none);
+    poll_devices(&b, 6, 255, 0, 0, SENT(32, 0, 1), BYTES(FF_10, 0xFF, URGENT_PACKET));
+    poll_devices(&b, 0, 4, 0, 0, SENT(5, 0, 1), BYTES(FF_9, FIRST_OF_TWO));
+    poll_devices(&b, 0, 3, 0, 0, NOBODY_HAS(10), nobody_10);
+    poll_devices(&b, 11, 4, 0, 0, QUIET, none);
+    EXPECT(stands(&b, 0, 0, 1, 2));
+    EXPECT(stands(&b, 2, 0, 1, 1));
+    /* A confirmation reaches those below the minimum, and comes before silence. */
+    poll_devices(&b, 33, 0, 32, 0, QUIET, none);
+    EXPECT(stands(&b, 2, 1, 0, 0));
+    poll_devices(&b, 6, 0, 5, 0, NOBODY_HAS(10), nobody_10);
+    EXPECT(stands(&b, 0, 1, 0, 1));
+    /* Nothing was sent since: nothing is confirmed. */
+    poll_devices(&b, 6, 0, 5, 1, NOBODY_HAS(10), nobody_10);
+    poll_devices(&b, 6, 0, 5, 0, NOBODY_HAS(10), nobody_10);
+    EXPECT(stands(&b, 0, 1, 0, 1));
+    fill(out);
+    printf("moor_poll, no device -> ");
+    polled(moor_poll(0, 255, 0, 0, NO_QUEUES, out, MOOR_POLL_ROOM), QUIET, none);
+    bytes frame = BYTES(EVENT_REQUEST_FRAME);
+    printf("moor_offer_poll, no device -> ");
+    polled(moor_offer_poll(frame.start, frame.length, NO_QUEUES, out, MOOR_POLL_ROOM), QUIET,
+           none);
+}
+
+/* A full queue: the longest packet, and room once it is confirmed. */
+static void full_queue_polled(void)
+{
+    bus b = fresh();
+    bytes eight = BYTES(1, 2, 3, 4, 5, 6, 7, 8);
+    for (uint16_t i = 0; i < MOOR_MOST_QUEUED; i++)
+        add_event(&b, 32, 1, i, eight, MOOR_ACCEPTED);
+    fill(out);
+    moor_polled got = moor_poll(0, 96, 0, 0, QUEUES(b), out, MOOR_POLL_ROOM);
+    printf("moor_poll, a full queue -> %zu bytes\n", got.length);
+    EXPECT(got.number == MOOR_ACCEPTED && got.answer == MOOR_PACKET);
+    EXPECT(got.events == MOOR_MOST_QUEUED && got.length == 11 + 6 + 96 + 2);
+    moor_events_read read = moor_read_events(out, got.length);
+    EXPECT(read.answer == MOOR_PACKET && read.listed == MOOR_MOST_QUEUED && read.first == 17);
+    size_t at = read.first;
+    for (uint16_t i = 0; i < MOOR_MOST_QUEUED; i++) {
+        moor_event event = moor_event_at(out, got.length, at);
+        EXPECT(event.identifier == i && event.size == 8);
+        at = event.next;
+    }
+    EXPECT(at + 2 == got.length);
+    got = moor_poll(0, 95, 0, 0, QUEUES(b), out, MOOR_POLL_ROOM);
+    EXPECT(got.events == MOOR_MOST_QUEUED - 1);
+    add_event(&b, 32, 0, 8, none, MOOR_QUEUE_FULL);
+    poll_devices(&b, 33, 96, 32, 0, QUIET, none);
+    EXPECT(stands(&b, 2, 1, 0, 1));
+    EXPECT(slot_starts(&b, 2, 0, BYTES(1, 8, 4, 0x00, 0x07)));
+    add_event(&b, 32, 0, 8, none, MOOR_ACCEPTED);
+    EXPECT(slot_starts(&b, 2, 1, BYTES(0, 0, 4, 0x00, 0x08)));
+}
+
+static void polls_refused(void)
+{
+    bus b = waiting();
+    bus before = b;
+    bytes frame = BYTES(EVENT_REQUEST_FRAME);
+    moor_polled output_short = NOT_POLLED(MOOR_OUTPUT_SHORT, 0);
+    fill(out);
+    printf("moor_poll, 115 bytes -> ");
+    polled(moor_poll(0, 255, 0, 0, QUEUES(b), out, MOOR_POLL_ROOM - 1), output_short, none);
+    printf("moor_offer_poll, 115 bytes -> ");
+    polled(moor_offer_poll(NULL, 0, QUEUES(b), out, MOOR_POLL_ROOM - 1), output_short, none);
+    printf("moor_poll, no device, 115 bytes -> ");
+    polled(moor_poll(0, 255, 0, 0, NO_QUEUES, out, MOOR_POLL_ROOM - 1), output_short, none);
+    offer_poll(none, &b, NOT_POLLED(MOOR_FRAME_LENGTH, 0), none);
+    offer_poll((bytes){frame.start, 8}, &b, NOT_POLLED(MOOR_FRAME_LENGTH, 0), none);
+    offer_poll(BYTES(0xFD, 0x47, 0x10, 0x00, 0x00), &b, NOT_POLLED(MOOR_FRAME_HEAD, 1), none);
+    offer_poll(BYTES(START_FRAME), &b, NOT_POLLED(MOOR_SUBCOMMAND_WRONG, 2), none);
+    offer_poll(BYTES(0xFD, 0x46, 0x10, 0x00, 0x64, 0x0A, 0x01, 0x7E, 0x16), &b,
+               NOT_POLLED(MOOR_FRAME_CHECK, 7), none);
+    EXPECT(same(&b, &before));
+    b.addresses[1] = 5;
+    before = b;
+    poll_devices(&b, 0, 255, 0, 0, NOT_POLLED(MOOR_TABLE_NOT_VALID, 0), none);
+    offer_poll(none, &b, NOT_POLLED(MOOR_TABLE_NOT_VALID, 0), none);
+    fill(out);
+    printf("moor_poll, an id twice, 115 bytes -> ");
+    polled(moor_poll(0, 255, 0, 0, QUEUES(b), out, MOOR_POLL_ROOM - 1), output_short, none);
+    EXPECT(same(&b, &before));
+}
+
+/* A scan looks at no queue, and a poll at no mark. */
+static void polls_between_scans(void)
+{
+    bus b = waiting();
+    clear_lists();
+    moor_scanned got = moor_scan(COLUMNS(b), found_serials, 3, found_addresses, 3, 100);
+    printf("moor_scan, events queued -> end %u, %zu requests\n", got.end, got.requests);
+    EXPECT(got.end == MOOR_COMPLETE && got.requests == 4);
+    EXPECT(stands(&b, 0, 0, 0, 2) && stands(&b, 2, 0, 0, 1));
+    poll_devices(&b, 0, 255, 0, 0, SENT(32, 0, 1), BYTES(FF_10, 0xFF, URGENT_PACKET));
+    EXPECT(b.marks[0] == 1 && b.marks[1] == 1 && b.marks[2] == 1);
+}
+
 int main(void)
 {
     checks();
@@ -1293,6 +1883,20 @@ int main(void)
     requests_refused();
     silence();
     scans();
+    event_requests_read();
+    events_read();
+    events_not_read();
+    events_at();
+    event_frames_written();
+    tables_of_queues();
+    entries_of_queues();
+    events_added();
+    printed_packet_polled();
+    events_polled();
+    devices_that_do_not_answer();
+    full_queue_polled();
+    polls_refused();
+    polls_between_scans();
     printf("%u held, %u differ\n", held, differ);
     return differ == 0 ? 0 : 1;
 }

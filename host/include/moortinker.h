@@ -65,7 +65,8 @@ extern "C" {
 
 #define MOOR_ACCEPTED           0 /* not refused */
 #define MOOR_OUTPUT_SHORT       1 /* a lent output is shorter than stated */
-#define MOOR_TABLE_NOT_VALID    2 /* the device table is not valid */
+#define MOOR_TABLE_NOT_VALID    2 /* the device table is not valid, or in event
+                                     calls table and queues are not */
 #define MOOR_RUN_ENDED          3 /* the eBUS run ends too early; place: its length */
 #define MOOR_ESCAPE_WRONG       4 /* the byte after A9 is none of 00, 01, AA */
 #define MOOR_SYN_EARLY          5 /* raw AA where another byte was due; a recording's
@@ -78,8 +79,10 @@ extern "C" {
 #define MOOR_REPLY_NACKED      11 /* the reply was NACKed twice; place: the second FF */
 #define MOOR_BUS_ERROR         12 /* an acknowledge byte that is none of 00, FF, AA,
                                      or not AA where SYN is due */
-#define MOOR_FRAME_LENGTH      13 /* Modbus length wrong; place: 0 */
-#define MOOR_FRAME_HEAD        14 /* not FD 46; place: the first wrong byte */
+#define MOOR_FRAME_LENGTH      13 /* Modbus length wrong; of a new event, no such
+                                     device or too much data; place: 0 */
+#define MOOR_FRAME_HEAD        14 /* not FD 46; of a packet of events, no sender's id
+                                     and 46; place: the first wrong byte */
 #define MOOR_SUBCOMMAND_WRONG  15 /* a subcommand that this call does not take */
 #define MOOR_FRAME_CHECK       16 /* Modbus check wrong; place: its first byte */
 #define MOOR_SERIAL_OVER       17 /* serial 2^28 or more; place: its first byte */
@@ -100,6 +103,10 @@ extern "C" {
 #define MOOR_FOUND 3
 #define MOOR_END   4
 
+/* What comes back for an event request. */
+#define MOOR_PACKET    17 /* a packet of events */
+#define MOOR_NO_EVENTS 18 /* nobody has events */
+
 /* How a whole scan ended. */
 #define MOOR_COMPLETE   1 /* the end of the scan was heard */
 #define MOOR_NOBODY     2 /* nobody answered */
@@ -109,9 +116,16 @@ extern "C" {
 #define MOOR_COMMAND_ROOM  22 /* command buffer of moor_judge and moor_close */
 #define MOOR_REPLY_ROOM    18 /* each reply buffer of moor_judge and moor_close */
 #define MOOR_ANSWER_ROOM   42 /* answer buffer of moor_start, moor_resume, moor_offer */
+#define MOOR_POLL_ROOM    116 /* answer buffer of moor_poll and moor_offer_poll */
 #define MOOR_COMMAND_WIRE  41 /* the longest command on the wire */
 #define MOOR_REPLY_WIRE    35 /* the longest reply on the wire */
 #define MOOR_MOST_DEVICES 247 /* the largest device table */
+
+/* Event queues. */
+#define MOOR_MOST_QUEUED    8 /* the most events that a device has queued */
+#define MOOR_MOST_DATA      8 /* the most data bytes of a queued event */
+#define MOOR_SLOT_LENGTH   13 /* the bytes of a slot, which holds one event */
+#define MOOR_SLOTS_LENGTH 104 /* the bytes of the slots of one device */
 
 /* ---- Answers ------------------------------------------------------------ */
 
@@ -226,6 +240,64 @@ typedef struct {
     size_t requests;
     size_t found;
 } moor_scanned;
+
+/* An event request read: the smallest id that may answer, the most bytes of
+ * events, and the packet that it confirms, by its sender's id and its flag. */
+typedef struct {
+    uint8_t number;
+    uint8_t minimum;
+    uint8_t most;
+    uint8_t confirmed;
+    uint8_t flag;
+    size_t place;
+} moor_event_request_read;
+
+/* What came back for an event request: MOOR_PACKET with its sender, its flag,
+ * how many events are queued and how many it lists, where the first of those
+ * stands in the input and how many bytes they have; or MOOR_NO_EVENTS, with all
+ * of these 0. */
+typedef struct {
+    uint8_t number;
+    uint8_t answer;
+    uint8_t sender;
+    uint8_t flag;
+    uint8_t queued;
+    uint8_t size;
+    size_t place;
+    size_t listed;
+    size_t first;
+} moor_events_read;
+
+/* One event: its type and its identifier, where its `size` data bytes start in
+ * the input, and the position behind it. Where no whole event stands, `whole`
+ * is 0 and so is all else. */
+typedef struct {
+    uint8_t whole;
+    uint8_t kind;
+    uint8_t size;
+    uint16_t identifier;
+    size_t start;
+    size_t next;
+} moor_event;
+
+/* What a new event gives: refused, or not. */
+typedef struct {
+    uint8_t number;
+    size_t place;
+} moor_added;
+
+/* What a poll gives: MOOR_PACKET with its sender's id, its flag and how many
+ * events it lists; MOOR_NO_EVENTS with the id of the device that says so; or 0,
+ * silence, with length 0. */
+typedef struct {
+    uint8_t number;
+    uint8_t answer;
+    uint8_t sender;
+    uint8_t flag;
+    uint8_t events;
+    size_t place;
+    size_t length;
+} moor_polled;
 
 /* ---- Checks ------------------------------------------------------------- */
 
@@ -518,6 +590,142 @@ moor_scanned moor_scan(const uint32_t *serials, size_t serials_length,
                        uint32_t *found_serials, size_t found_serials_length,
                        uint8_t *found_addresses, size_t found_addresses_length,
                        size_t cap);
+
+/* ---- Fast Modbus: event frames ------------------------------------------ */
+
+/* What an event request asks; it must fill the input, and each byte is
+ * reported as sent.
+ *
+ * Refuses with
+ *   MOOR_FRAME_LENGTH      if there are fewer than 5 bytes;
+ *   MOOR_FRAME_HEAD;
+ *   MOOR_SUBCOMMAND_WRONG  if it is not 10;
+ *   MOOR_FRAME_LENGTH      if there are not 9 bytes;
+ *   MOOR_FRAME_CHECK. */
+moor_event_request_read moor_read_event_request(const uint8_t *input,
+                                                size_t input_length);
+
+/* Writes an event request: 9 bytes.
+ *
+ * Refuses with
+ *   MOOR_OUTPUT_SHORT  if the output is under 9 bytes; place: 0. */
+moor_written moor_write_event_request(uint8_t minimum, uint8_t most,
+                                      uint8_t confirmed, uint8_t flag,
+                                      uint8_t *out, size_t out_length);
+
+/* What came back for an event request; any number of leading FF is passed
+ * over, and the frame must fill the rest. A packet begins with its sender's id,
+ * 1 to 247; that nobody has events, with FD. A packet's events stay where they
+ * are: moor_event_at takes them apart, from `first` on, `listed` times. Flag and
+ * number queued are reported as sent.
+ *
+ * Refuses (places count the leading FF, but for MOOR_FRAME_LENGTH, whose place
+ * is 0) with
+ *   MOOR_FRAME_LENGTH      if fewer than 5 bytes are left;
+ *   MOOR_FRAME_HEAD        if the first byte is neither FD nor an id, or the
+ *                          second is not 46;
+ *   MOOR_SUBCOMMAND_WRONG  if it is not 12 behind FD, 11 behind an id;
+ *   MOOR_FRAME_LENGTH      if not 5 bytes are left for 12; for 11, if its events
+ *                          do not have the bytes that it says, do not come out
+ *                          even, or are more than it says are queued;
+ *   MOOR_FRAME_CHECK. */
+moor_events_read moor_read_events(const uint8_t *input, size_t input_length);
+
+/* The event at a position of any bytes, where all of it is there. Never
+ * refuses. */
+moor_event moor_event_at(const uint8_t *input, size_t input_length, size_t at);
+
+/* Writes the answer that nobody has events: 5 bytes.
+ *
+ * Refuses with
+ *   MOOR_OUTPUT_SHORT  if the output is under 5 bytes; place: 0. */
+moor_written moor_write_no_events(uint8_t *out, size_t out_length);
+
+/* ---- Fast Modbus: event queues and polls -------------------------------- */
+
+/* Beside the device table stand four columns: of each device the flag of its
+ * next packet, 0 or 1; how many events its last packet had, 0 where none waits
+ * for its confirmation; how many events are queued; and MOOR_SLOTS_LENGTH bytes
+ * of slots, the oldest event first. Of a fresh device all of them are 0. A slot has MOOR_SLOT_LENGTH bytes: 1 where the event is
+ * urgent and 0 where not, the number of its data bytes, its type, its
+ * identifier, high byte first, and its data; bytes behind the data mean
+ * nothing, and slots behind the queued ones neither.
+ *
+ * They are valid when the table is, the addresses, which are the ids here, are
+ * 1 to 247 and differ, the four columns have as many entries as there are
+ * devices, flags are 0 or 1, at most MOOR_MOST_QUEUED events are queued, the
+ * last packet had no more than are queued, and each queued event is urgent (1)
+ * or not (0) and has at most MOOR_MOST_DATA data bytes. */
+
+/* Whether table and queues are valid. */
+bool moor_queues_valid(const uint32_t *serials, size_t serials_length,
+                       const uint8_t *addresses, size_t addresses_length,
+                       const uint8_t *marks, size_t marks_length,
+                       const uint8_t *flags, size_t flags_length,
+                       const uint8_t *lasts, size_t lasts_length,
+                       const uint8_t *counts, size_t counts_length,
+                       const uint8_t *slots, size_t slots_length);
+
+/* A new event for the device with this id, behind those that it has queued.
+ * Its flag and its last packet stay. `urgent` is 0 for a normal event, and
+ * anything else for an urgent one.
+ *
+ * Refuses, every place being 0, with
+ *   MOOR_TABLE_NOT_VALID  if table and queues are not valid;
+ *   MOOR_FRAME_LENGTH     if there is no such device, or the event has over
+ *                         MOOR_MOST_DATA data bytes;
+ *   MOOR_QUEUE_FULL. */
+moor_added moor_add_event(const uint32_t *serials, size_t serials_length,
+                          const uint8_t *addresses, size_t addresses_length,
+                          const uint8_t *marks, size_t marks_length,
+                          const uint8_t *flags, size_t flags_length,
+                          const uint8_t *lasts, size_t lasts_length,
+                          uint8_t *counts, size_t counts_length,
+                          uint8_t *slots, size_t slots_length,
+                          uint8_t id, uint8_t urgent, uint8_t kind,
+                          uint16_t identifier,
+                          const uint8_t *payload, size_t payload_length);
+
+/* A poll. First the packet that it names is confirmed: where the device with
+ * that id has sent a packet that is not confirmed yet, with that flag, its
+ * events are dropped and its flag turns. All its slots behind the dropped ones
+ * move to the start, and the last bytes stay as they were. Then the devices
+ * contend over 12 windows: those with an id not below `minimum` whose oldest
+ * event has at most `most` bytes on the wire, or who have none. The smallest
+ * key remains: a marker in four bits, 15 where nothing is queued, 0 where any
+ * queued event is urgent, else 1; and the id in eight. The winner sends as many
+ * of its oldest events as fit into `most` bytes, and its entry of `lasts` becomes
+ * how many they are; with nothing queued it says that nobody has events. Where
+ * nobody contends there is silence. The answer is one FF for each dominant
+ * window and then the frame; the bytes behind it stay.
+ *
+ * Refuses with
+ *   MOOR_OUTPUT_SHORT     if the answer buffer is under MOOR_POLL_ROOM bytes,
+ *                         also where the answer would be shorter;
+ *   MOOR_TABLE_NOT_VALID  if table and queues are not valid. */
+moor_polled moor_poll(uint8_t minimum, uint8_t most,
+                      uint8_t confirmed, uint8_t flag,
+                      const uint32_t *serials, size_t serials_length,
+                      const uint8_t *addresses, size_t addresses_length,
+                      const uint8_t *marks, size_t marks_length,
+                      uint8_t *flags, size_t flags_length,
+                      uint8_t *lasts, size_t lasts_length,
+                      uint8_t *counts, size_t counts_length,
+                      uint8_t *slots, size_t slots_length,
+                      uint8_t *answer, size_t answer_length);
+
+/* A raw event request offered to the devices.
+ *
+ * Refuses as moor_poll does, and then as moor_read_event_request does. */
+moor_polled moor_offer_poll(const uint8_t *frame, size_t frame_length,
+                            const uint32_t *serials, size_t serials_length,
+                            const uint8_t *addresses, size_t addresses_length,
+                            const uint8_t *marks, size_t marks_length,
+                            uint8_t *flags, size_t flags_length,
+                            uint8_t *lasts, size_t lasts_length,
+                            uint8_t *counts, size_t counts_length,
+                            uint8_t *slots, size_t slots_length,
+                            uint8_t *answer, size_t answer_length);
 
 #ifdef __cplusplus
 }

@@ -6,6 +6,7 @@
 //! a `&mut` slice overlaps no other slice of the same call, and `sys` asks for
 //! nothing more. A pointer of an empty slice is not read or written through.
 
+use crate::events::{Columns, Event, Request};
 use crate::sys;
 
 pub(crate) fn ebus_check(logical: &[u8]) -> u8 {
@@ -300,6 +301,157 @@ pub(crate) fn scan(
             found_addresses.as_mut_ptr(),
             found_addresses.len(),
             cap,
+        )
+    }
+}
+
+pub(crate) fn read_event_request(input: &[u8]) -> sys::EventRequestRead {
+    // SAFETY: pointer and length of one slice, which is only read.
+    unsafe { sys::moor_read_event_request(input.as_ptr(), input.len()) }
+}
+
+pub(crate) fn write_event_request(request: Request, out: &mut [u8]) -> sys::Written {
+    // SAFETY: pointer and length of one slice, which overlaps nothing.
+    unsafe {
+        sys::moor_write_event_request(
+            request.minimum,
+            request.most,
+            request.confirmed,
+            request.flag,
+            out.as_mut_ptr(),
+            out.len(),
+        )
+    }
+}
+
+pub(crate) fn read_events(input: &[u8]) -> sys::EventsRead {
+    // SAFETY: pointer and length of one slice, which is only read.
+    unsafe { sys::moor_read_events(input.as_ptr(), input.len()) }
+}
+
+pub(crate) fn event_at(input: &[u8], at: usize) -> sys::Event {
+    // SAFETY: pointer and length of one slice, which is only read; any
+    // position may be asked for.
+    unsafe { sys::moor_event_at(input.as_ptr(), input.len(), at) }
+}
+
+pub(crate) fn write_no_events(out: &mut [u8]) -> sys::Written {
+    // SAFETY: pointer and length of one slice, which overlaps nothing.
+    unsafe { sys::moor_write_no_events(out.as_mut_ptr(), out.len()) }
+}
+
+pub(crate) fn queues_valid(columns: &Columns<'_>) -> bool {
+    // SAFETY: pointer and length of each slice; all are only read.
+    unsafe {
+        sys::moor_queues_valid(
+            columns.serials.as_ptr(),
+            columns.serials.len(),
+            columns.addresses.as_ptr(),
+            columns.addresses.len(),
+            columns.marks.as_ptr(),
+            columns.marks.len(),
+            columns.flags.as_ptr(),
+            columns.flags.len(),
+            columns.lasts.as_ptr(),
+            columns.lasts.len(),
+            columns.counts.as_ptr(),
+            columns.counts.len(),
+            columns.slots.as_ptr(),
+            columns.slots.len(),
+        )
+    }
+}
+
+pub(crate) fn add_event(
+    columns: &mut Columns<'_>,
+    id: u8,
+    urgent: bool,
+    event: Event<'_>,
+) -> sys::Added {
+    // SAFETY: pointer and length of each slice; the two that are written
+    // overlap nothing.
+    unsafe {
+        sys::moor_add_event(
+            columns.serials.as_ptr(),
+            columns.serials.len(),
+            columns.addresses.as_ptr(),
+            columns.addresses.len(),
+            columns.marks.as_ptr(),
+            columns.marks.len(),
+            columns.flags.as_ptr(),
+            columns.flags.len(),
+            columns.lasts.as_ptr(),
+            columns.lasts.len(),
+            columns.counts.as_mut_ptr(),
+            columns.counts.len(),
+            columns.slots.as_mut_ptr(),
+            columns.slots.len(),
+            id,
+            u8::from(urgent),
+            event.kind,
+            event.identifier,
+            event.data.as_ptr(),
+            event.data.len(),
+        )
+    }
+}
+
+pub(crate) fn poll(request: Request, columns: &mut Columns<'_>, answer: &mut [u8]) -> sys::Polled {
+    // SAFETY: pointer and length of each slice; the five that are written
+    // overlap nothing.
+    unsafe {
+        sys::moor_poll(
+            request.minimum,
+            request.most,
+            request.confirmed,
+            request.flag,
+            columns.serials.as_ptr(),
+            columns.serials.len(),
+            columns.addresses.as_ptr(),
+            columns.addresses.len(),
+            columns.marks.as_ptr(),
+            columns.marks.len(),
+            columns.flags.as_mut_ptr(),
+            columns.flags.len(),
+            columns.lasts.as_mut_ptr(),
+            columns.lasts.len(),
+            columns.counts.as_mut_ptr(),
+            columns.counts.len(),
+            columns.slots.as_mut_ptr(),
+            columns.slots.len(),
+            answer.as_mut_ptr(),
+            answer.len(),
+        )
+    }
+}
+
+pub(crate) fn offer_poll(
+    frame: &[u8],
+    columns: &mut Columns<'_>,
+    answer: &mut [u8],
+) -> sys::Polled {
+    // SAFETY: pointer and length of each slice; the five that are written
+    // overlap nothing.
+    unsafe {
+        sys::moor_offer_poll(
+            frame.as_ptr(),
+            frame.len(),
+            columns.serials.as_ptr(),
+            columns.serials.len(),
+            columns.addresses.as_ptr(),
+            columns.addresses.len(),
+            columns.marks.as_ptr(),
+            columns.marks.len(),
+            columns.flags.as_mut_ptr(),
+            columns.flags.len(),
+            columns.lasts.as_mut_ptr(),
+            columns.lasts.len(),
+            columns.counts.as_mut_ptr(),
+            columns.counts.len(),
+            columns.slots.as_mut_ptr(),
+            columns.slots.len(),
+            answer.as_mut_ptr(),
+            answer.len(),
         )
     }
 }

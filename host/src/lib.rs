@@ -1,6 +1,7 @@
 //! The proved bus core of a plant-room gateway, from Rust: eBUS to the boilers
 //! ([`ebus`]), Fast Modbus to the sensors ([`modbus`] for the scan frames,
-//! [`devices`] for the devices' side of a scan and whole scans).
+//! [`devices`] for the devices' side of a scan and whole scans, [`events`] for
+//! the frames of event polling and the devices' side of it).
 //!
 //! The work is done by `libmoortinker.a`, whose functions are proved to return
 //! for any bytes of any length, to touch only what they were lent, and to give
@@ -48,6 +49,7 @@
 mod call;
 pub mod devices;
 pub mod ebus;
+pub mod events;
 pub mod modbus;
 mod refusal;
 pub mod sys;

@@ -70,7 +70,8 @@ reasons! {
     pub enum Reason {
         /// A lent output is shorter than stated.
         OutputShort = 1, "the output is too short";
-        /// The device table is not valid.
+        /// The device table is not valid; in calls on events, or the queues
+        /// beside it.
         TableNotValid = 2, "the device table is not valid";
         /// The eBUS run ends too early, or an escape does. The place is the run's
         /// length; for a listener that is closed, the bytes that it used.
@@ -94,9 +95,12 @@ reasons! {
         /// An acknowledge byte that is none of 00, FF, AA, or not AA where SYN is
         /// due.
         BusError = 12, "bus error";
-        /// The length of a Modbus frame is wrong. The place is 0.
+        /// The length of a Modbus frame is wrong, or what it says of its
+        /// lengths; a new event has too much data or is for no device. The place
+        /// is 0.
         FrameLength = 13, "the frame's length is wrong";
-        /// A Modbus frame does not begin FD 46.
+        /// A Modbus frame does not begin FD 46; a packet of events begins with an
+        /// id and 46.
         FrameHead = 14, "the frame does not begin FD 46";
         /// A subcommand that the reader does not take.
         SubcommandWrong = 15, "the subcommand is not one that is taken";

@@ -3,8 +3,8 @@
 //! prefix `moor_`.
 //!
 //! Use it where a C-like call is wanted; [`ebus`](crate::ebus),
-//! [`modbus`](crate::modbus) and [`devices`](crate::devices) offer every one
-//! of these calls safely.
+//! [`modbus`](crate::modbus), [`devices`](crate::devices) and
+//! [`events`](crate::events) offer every one of these calls safely.
 //!
 //! # Safety
 //!
@@ -34,7 +34,7 @@
 pub const MOOR_ACCEPTED: u8 = 0;
 /// A lent output is shorter than stated.
 pub const MOOR_OUTPUT_SHORT: u8 = 1;
-/// The device table is not valid.
+/// The device table is not valid, or in event calls table and queues are not.
 pub const MOOR_TABLE_NOT_VALID: u8 = 2;
 /// The eBUS run ends too early.
 pub const MOOR_RUN_ENDED: u8 = 3;
@@ -58,7 +58,7 @@ pub const MOOR_REPLY_NACKED: u8 = 11;
 pub const MOOR_BUS_ERROR: u8 = 12;
 /// The Modbus length is wrong.
 pub const MOOR_FRAME_LENGTH: u8 = 13;
-/// The frame does not begin FD 46.
+/// The frame does not begin FD 46, or one of events with its sender's id.
 pub const MOOR_FRAME_HEAD: u8 = 14;
 /// A subcommand that the call does not take.
 pub const MOOR_SUBCOMMAND_WRONG: u8 = 15;
@@ -86,6 +86,11 @@ pub const MOOR_FOUND: u8 = 3;
 /// The answer that ends a scan.
 pub const MOOR_END: u8 = 4;
 
+/// A packet of events.
+pub const MOOR_PACKET: u8 = 17;
+/// Nobody has events.
+pub const MOOR_NO_EVENTS: u8 = 18;
+
 /// The end of the scan was heard.
 pub const MOOR_COMPLETE: u8 = 1;
 /// Nobody answered.
@@ -99,12 +104,23 @@ pub const MOOR_COMMAND_ROOM: usize = 22;
 pub const MOOR_REPLY_ROOM: usize = 18;
 /// The room that `moor_start`, `moor_resume` and `moor_offer` ask for.
 pub const MOOR_ANSWER_ROOM: usize = 42;
+/// The room that `moor_poll` and `moor_offer_poll` ask for.
+pub const MOOR_POLL_ROOM: usize = 116;
 /// The longest command on the wire.
 pub const MOOR_COMMAND_WIRE: usize = 41;
 /// The longest reply on the wire.
 pub const MOOR_REPLY_WIRE: usize = 35;
 /// The largest device table.
 pub const MOOR_MOST_DEVICES: usize = 247;
+
+/// The most events that a device has queued.
+pub const MOOR_MOST_QUEUED: usize = 8;
+/// The most data bytes of a queued event.
+pub const MOOR_MOST_DATA: usize = 8;
+/// The bytes of a slot, which holds one event.
+pub const MOOR_SLOT_LENGTH: usize = 13;
+/// The bytes of the slots of one device.
+pub const MOOR_SLOTS_LENGTH: usize = 104;
 
 /// What a call that writes gives.
 #[repr(C)]
@@ -283,6 +299,96 @@ pub struct Scanned {
     pub requests: usize,
     /// How many devices were heard.
     pub found: usize,
+}
+
+/// An event request read.
+#[repr(C)]
+#[derive(Clone, Copy, Debug, PartialEq, Eq)]
+pub struct EventRequestRead {
+    /// The number of the refusal, 0 when accepted.
+    pub number: u8,
+    /// The smallest id that may answer.
+    pub minimum: u8,
+    /// The most bytes of events.
+    pub most: u8,
+    /// The sender's id of the packet that is confirmed.
+    pub confirmed: u8,
+    /// The flag of the packet that is confirmed.
+    pub flag: u8,
+    /// The place of the refusal.
+    pub place: usize,
+}
+
+/// What came back for an event request.
+#[repr(C)]
+#[derive(Clone, Copy, Debug, PartialEq, Eq)]
+pub struct EventsRead {
+    /// The number of the refusal, 0 when accepted.
+    pub number: u8,
+    /// [`MOOR_PACKET`] or [`MOOR_NO_EVENTS`].
+    pub answer: u8,
+    /// The sender's id of a packet.
+    pub sender: u8,
+    /// The flag of a packet.
+    pub flag: u8,
+    /// How many events the sender of a packet has queued.
+    pub queued: u8,
+    /// How many bytes the events of a packet have.
+    pub size: u8,
+    /// The place of the refusal.
+    pub place: usize,
+    /// How many events a packet lists.
+    pub listed: usize,
+    /// Where in the input the first of them stands.
+    pub first: usize,
+}
+
+/// One event.
+#[repr(C)]
+#[derive(Clone, Copy, Debug, PartialEq, Eq)]
+pub struct Event {
+    /// 1 where a whole event stands; where none does all is 0.
+    pub whole: u8,
+    /// Its type.
+    pub kind: u8,
+    /// How many data bytes it has.
+    pub size: u8,
+    /// Its identifier.
+    pub identifier: u16,
+    /// Where in the input its data starts.
+    pub start: usize,
+    /// The position behind it.
+    pub next: usize,
+}
+
+/// What a new event gives.
+#[repr(C)]
+#[derive(Clone, Copy, Debug, PartialEq, Eq)]
+pub struct Added {
+    /// The number of the refusal, 0 when accepted.
+    pub number: u8,
+    /// The place of the refusal.
+    pub place: usize,
+}
+
+/// What a poll gives.
+#[repr(C)]
+#[derive(Clone, Copy, Debug, PartialEq, Eq)]
+pub struct Polled {
+    /// The number of the refusal, 0 when accepted.
+    pub number: u8,
+    /// [`MOOR_PACKET`], [`MOOR_NO_EVENTS`], or 0 for silence.
+    pub answer: u8,
+    /// The id of the device that answers.
+    pub sender: u8,
+    /// The flag of its packet.
+    pub flag: u8,
+    /// How many events its packet lists.
+    pub events: u8,
+    /// The place of the refusal.
+    pub place: usize,
+    /// How many bytes stand at the start of the answer buffer.
+    pub length: usize,
 }
 
 extern "C" {
@@ -468,6 +574,116 @@ extern "C" {
         found_addresses_length: usize,
         cap: usize,
     ) -> Scanned;
+
+    /// What an event request asks.
+    pub fn moor_read_event_request(input: *const u8, input_length: usize) -> EventRequestRead;
+
+    /// Writes an event request.
+    pub fn moor_write_event_request(
+        minimum: u8,
+        most: u8,
+        confirmed: u8,
+        flag: u8,
+        out: *mut u8,
+        out_length: usize,
+    ) -> Written;
+
+    /// What came back for an event request.
+    pub fn moor_read_events(input: *const u8, input_length: usize) -> EventsRead;
+
+    /// The event at a position of any bytes.
+    pub fn moor_event_at(input: *const u8, input_length: usize, at: usize) -> Event;
+
+    /// Writes the answer that nobody has events.
+    pub fn moor_write_no_events(out: *mut u8, out_length: usize) -> Written;
+
+    /// Whether table and queues are valid.
+    pub fn moor_queues_valid(
+        serials: *const u32,
+        serials_length: usize,
+        addresses: *const u8,
+        addresses_length: usize,
+        marks: *const u8,
+        marks_length: usize,
+        flags: *const u8,
+        flags_length: usize,
+        lasts: *const u8,
+        lasts_length: usize,
+        counts: *const u8,
+        counts_length: usize,
+        slots: *const u8,
+        slots_length: usize,
+    ) -> bool;
+
+    /// A new event for a device.
+    pub fn moor_add_event(
+        serials: *const u32,
+        serials_length: usize,
+        addresses: *const u8,
+        addresses_length: usize,
+        marks: *const u8,
+        marks_length: usize,
+        flags: *const u8,
+        flags_length: usize,
+        lasts: *const u8,
+        lasts_length: usize,
+        counts: *mut u8,
+        counts_length: usize,
+        slots: *mut u8,
+        slots_length: usize,
+        id: u8,
+        urgent: u8,
+        kind: u8,
+        identifier: u16,
+        payload: *const u8,
+        payload_length: usize,
+    ) -> Added;
+
+    /// A poll.
+    pub fn moor_poll(
+        minimum: u8,
+        most: u8,
+        confirmed: u8,
+        flag: u8,
+        serials: *const u32,
+        serials_length: usize,
+        addresses: *const u8,
+        addresses_length: usize,
+        marks: *const u8,
+        marks_length: usize,
+        flags: *mut u8,
+        flags_length: usize,
+        lasts: *mut u8,
+        lasts_length: usize,
+        counts: *mut u8,
+        counts_length: usize,
+        slots: *mut u8,
+        slots_length: usize,
+        answer: *mut u8,
+        answer_length: usize,
+    ) -> Polled;
+
+    /// A raw event request offered to the devices.
+    pub fn moor_offer_poll(
+        frame: *const u8,
+        frame_length: usize,
+        serials: *const u32,
+        serials_length: usize,
+        addresses: *const u8,
+        addresses_length: usize,
+        marks: *const u8,
+        marks_length: usize,
+        flags: *mut u8,
+        flags_length: usize,
+        lasts: *mut u8,
+        lasts_length: usize,
+        counts: *mut u8,
+        counts_length: usize,
+        slots: *mut u8,
+        slots_length: usize,
+        answer: *mut u8,
+        answer_length: usize,
+    ) -> Polled;
 }
 
 /// Sizes and offsets, held to what C has on x86-64 Linux. The C example holds
@@ -506,5 +722,14 @@ mod tests {
         answer_read: AnswerRead 16 8 { number 0 answer 1 address 2 serial 4 place 8 }
         decided: Decided 16 8 { key 0 dominant 8 }
         scanned: Scanned 32 8 { number 0 end 1 place 8 requests 16 found 24 }
+        event_request_read: EventRequestRead 16 8 {
+            number 0 minimum 1 most 2 confirmed 3 flag 4 place 8
+        }
+        events_read: EventsRead 32 8 {
+            number 0 answer 1 sender 2 flag 3 queued 4 size 5 place 8 listed 16 first 24
+        }
+        event: Event 24 8 { whole 0 kind 1 size 2 identifier 4 start 8 next 16 }
+        added: Added 16 8 { number 0 place 8 }
+        polled: Polled 24 8 { number 0 answer 1 sender 2 flag 3 events 4 place 8 length 16 }
     }
 }

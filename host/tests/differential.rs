@@ -16,6 +16,10 @@ mod calls;
 mod cuts;
 #[path = "differential/edges.rs"]
 mod edges;
+#[path = "differential/eventedges.rs"]
+mod eventedges;
+#[path = "differential/eventframes.rs"]
+mod eventframes;
 #[path = "differential/families.rs"]
 mod families;
 #[path = "differential/hands.rs"]
@@ -30,6 +34,12 @@ mod inputs;
 mod lent;
 #[path = "differential/long.rs"]
 mod long;
+#[path = "differential/polling.rs"]
+mod polling;
+#[path = "differential/polls.rs"]
+mod polls;
+#[path = "differential/queues.rs"]
+mod queues;
 #[path = "differential/random.rs"]
 mod random;
 #[path = "differential/session.rs"]

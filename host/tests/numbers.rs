@@ -146,7 +146,7 @@ fn the_definitions() {
 
 #[test]
 fn the_words_of_the_desk_tool() {
-    let path = "crates/moortinker/src/names.rt";
+    let path = "crates/desk/src/names.rt";
     let text = file(path);
     let names = text
         .split("b\"")

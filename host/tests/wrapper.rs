@@ -10,6 +10,10 @@ use moortinker::devices::{
 use moortinker::ebus::{
     self, Command, Kind, Listener, COMMAND_ROOM, COMMAND_WIRE, REPLY_ROOM, REPLY_WIRE,
 };
+use moortinker::events::{
+    self, Event, Polled, Queues, Sent, MOST_DATA, MOST_QUEUED, POLL_ROOM, REQUEST_FRAME,
+    SLOTS_LENGTH, SLOT_LENGTH,
+};
 use moortinker::modbus::{self, Answer, Request};
 use moortinker::{sys, Reason, Refusal};
 
@@ -33,6 +37,13 @@ const START: [u8; 5] = [0xFD, 0x46, 0x01, 0x13, 0x90];
 const CONTINUE: [u8; 5] = [0xFD, 0x46, 0x02, 0x53, 0x91];
 const END: [u8; 5] = [0xFD, 0x46, 0x04, 0xD3, 0x93];
 const FOUND: [u8; 10] = [0xFD, 0x46, 0x03, 0x00, 0x01, 0xEB, 0x37, 0x0C, 0xCE, 0xDC];
+
+/// The frames of events that document 000 prints, with their checks.
+const EVENT_REQUEST: [u8; 9] = [0xFD, 0x46, 0x10, 0x00, 0x64, 0x0A, 0x01, 0x7E, 0x15];
+const PACKET: [u8; 14] = [
+    0x05, 0x46, 0x11, 0x01, 0x01, 0x06, 0x02, 0x04, 0x01, 0xD0, 0x04, 0x00, 0x2B, 0xAC,
+];
+const NO_EVENTS: [u8; 5] = [0xFD, 0x46, 0x12, 0x52, 0x5D];
 
 /// Number and place of a refusal.
 type Named = (u8, usize);
@@ -1205,4 +1216,519 @@ fn contests() {
     assert_eq!(contest(&[u32::MAX]), decided(u32::MAX, 0));
     assert_eq!(contest(&[0xF001EB37, 0x0001EB37]), decided(0x0001EB37, 20));
     assert_eq!(contest(&[7; 300]), decided(7, 29));
+}
+
+// ---- Fast Modbus: event frames ----------------------------------------------
+
+/// The bytes with their check behind them.
+fn checked(bytes: &[u8]) -> Vec<u8> {
+    [bytes, &modbus::check(bytes).to_le_bytes()].concat()
+}
+
+/// The packet in what must be one.
+fn packet(input: &[u8]) -> events::Packet<'_> {
+    match events::read_answer(input) {
+        Ok(events::Answer::Packet(packet)) => packet,
+        other => panic!("{input:02X?} is no packet: {other:02X?}"),
+    }
+}
+
+#[test]
+fn the_printed_event_frames() {
+    let request = asking(0, 100, 0x0A, 1);
+    assert_eq!(events::read_request(&EVENT_REQUEST), Ok(request));
+    assert_eq!(request.frame(), EVENT_REQUEST);
+
+    let read = packet(&PACKET);
+    assert_eq!((read.sender(), read.flag(), read.queued()), (0x05, 1, 1));
+    assert_eq!((read.len(), read.is_empty()), (1, false));
+    assert_eq!(read.bytes(), &PACKET[6..12]);
+    let change = Event {
+        kind: 4,
+        identifier: 0x01D0,
+        data: &[0x04, 0x00],
+    };
+    assert!(read.events().eq([change]));
+
+    let nothing = events::read_answer(&NO_EVENTS);
+    assert_eq!(nothing, Ok(events::Answer::NoEvents));
+    let mut out = [FILL; 6];
+    assert_eq!(events::write_no_events(&mut out), Ok(5));
+    assert_eq!((&out[..5], out[5]), (&NO_EVENTS[..], FILL));
+}
+
+#[test]
+fn event_requests_refused() {
+    let longer = [&EVENT_REQUEST[..], &[0x00]].concat();
+    let filled = [&[0xFF], &EVENT_REQUEST[..]].concat();
+    let mut wrong = EVENT_REQUEST;
+    wrong[8] ^= 0x01;
+    let cases: [(&[u8], Named); 10] = [
+        (&[], (13, 0)),
+        (&EVENT_REQUEST[..4], (13, 0)),
+        (&EVENT_REQUEST[..8], (13, 0)),
+        (&longer, (13, 0)),
+        (&filled, (14, 0)),
+        (&[0xFD, 0x47, 0x10, 0x00, 0x00], (14, 1)),
+        (&START, (15, 2)),
+        (&NO_EVENTS, (15, 2)),
+        (&[0xFD, 0x46, 0x11, 0x00, 0x00, 0x00], (15, 2)),
+        (&wrong, (16, 7)),
+    ];
+    for (frame, refusal) in cases {
+        assert_eq!(refused(events::read_request(frame)), refusal);
+    }
+    // The scan's readers go on refusing them.
+    assert_eq!(refused(modbus::read_request(&EVENT_REQUEST)), (15, 2));
+    assert_eq!(refused(modbus::read_answer(&NO_EVENTS)), (15, 2));
+}
+
+#[test]
+fn what_comes_back_refused() {
+    let longer = [&NO_EVENTS[..], &[0x00]].concat();
+    let more_than_queued = checked(&[0x05, 0x46, 0x11, 0x01, 0x00, 0x04, 0x00, 0x0F, 0x00, 0x00]);
+    let uneven = checked(&[0x05, 0x46, 0x11, 0x01, 0x01, 0x04, 0x01, 0x0F, 0x00, 0x00]);
+    let mut wrong = [&[0xFF; 3], &PACKET[..]].concat();
+    *wrong.last_mut().unwrap() ^= 0x01;
+    let cases: [(&[u8], Named); 16] = [
+        (&[], (13, 0)),
+        (&[0xFF; 40], (13, 0)),
+        (&NO_EVENTS[..4], (13, 0)),
+        (&longer, (13, 0)),
+        (&PACKET[..5], (13, 0)),
+        (&PACKET[..13], (13, 0)),
+        (&more_than_queued, (13, 0)),
+        (&uneven, (13, 0)),
+        (&[0xFF, 0x00, 0x46, 0x11, 0x00, 0x00], (14, 1)),
+        (&[0xFF, 0xF8, 0x46, 0x11, 0x00, 0x00], (14, 1)),
+        (&[0xFF, 0xF7, 0x47, 0x11, 0x00, 0x00], (14, 2)),
+        (&[0xFF, 0xF7, 0x46, 0x12, 0x00, 0x00], (15, 3)),
+        (&[0xFD, 0x46, 0x11, 0x00, 0x00], (15, 2)),
+        (&EVENT_REQUEST, (15, 2)),
+        (&wrong, (16, 15)),
+        (&[0xFF, 0xFD, 0x46, 0x12, 0x52, 0x5E], (16, 4)),
+    ];
+    for (frame, refusal) in cases {
+        assert_eq!(refused(events::read_answer(frame)), refusal, "{frame:02X?}");
+    }
+}
+
+#[test]
+fn any_number_of_ff_before_what_comes_back() {
+    for count in [0, 1, 32, 33, 1000] {
+        let fill = vec![0xFF; count];
+        let input = [&fill[..], &NO_EVENTS].concat();
+        let nothing = events::read_answer(&input);
+        assert_eq!(nothing, Ok(events::Answer::NoEvents));
+        let input = [&fill[..], &PACKET].concat();
+        assert_eq!(packet(&input), packet(&PACKET));
+    }
+}
+
+#[test]
+fn packets_are_reported_as_sent() {
+    // No event at all, and 63 of them; any flag and any number queued.
+    let none = checked(&[0xF7, 0x46, 0x11, 0xAA, 0x00, 0x00]);
+    let read = packet(&none);
+    assert_eq!((read.flag(), read.queued(), read.len()), (0xAA, 0, 0));
+    assert!(read.is_empty() && read.events().next().is_none());
+    let head = [0x01, 0x46, 0x11, 0x00, 0xFF, 252];
+    let many = checked(&[&head[..], &[0; 252]].concat());
+    let read = packet(&many);
+    assert_eq!((read.queued(), read.len()), (0xFF, 63));
+    let nothing = Event {
+        kind: 0,
+        identifier: 0,
+        data: &[],
+    };
+    assert!(read.events().eq([nothing; 63]));
+    // One event that fills a packet.
+    let head = [0x01, 0x46, 0x11, 0x00, 0x01, 0xFF, 0xFB, 0x0F, 0x12, 0x34];
+    let long = checked(&[&head[..], &[0x5A; 251]].concat());
+    let event = packet(&long).events().next().unwrap();
+    assert_eq!((event.kind, event.identifier), (0x0F, 0x1234));
+    assert_eq!(event.data, [0x5A; 251]);
+}
+
+#[test]
+fn events_of_a_packet_are_an_iterator_of_exact_size() {
+    let input = checked(&[
+        0x05, 0x46, 0x11, 0x00, 0x03, 0x0F, 0x00, 0x0F, 0x00, 0x00, 0x02, 0x03, 0x00, 0x07, 0xAB,
+        0xCD, 0x01, 0x02, 0x00, 0x04, 0x01,
+    ]);
+    let read = packet(&input);
+    let mut heard = read.events();
+    assert_eq!((heard.len(), heard.size_hint()), (3, (3, Some(3))));
+    assert_eq!(heard.next().map(|event| event.kind), Some(0x0F));
+    assert_eq!((heard.len(), heard.clone().count()), (2, 2));
+    let data: Vec<&[u8]> = heard.by_ref().map(|event| event.data).collect();
+    assert_eq!(data, [&[0xAB, 0xCD][..], &[0x01]]);
+    assert_eq!((heard.next(), heard.next(), heard.len()), (None, None, 0));
+    assert_eq!((&read).into_iter().count(), 3);
+}
+
+#[test]
+fn an_event_at_any_position() {
+    let bytes = [0x00, 0x01, 0x02, 0x03, 0x02, 0x05, 0x06, 0x07, 0x08, 0x09];
+    let event = |kind, identifier, from: usize, next| {
+        let data = &bytes[from..next];
+        let event = Event {
+            kind,
+            identifier,
+            data,
+        };
+        Some((event, next))
+    };
+    assert_eq!(events::event_at(&bytes, 0), event(1, 0x0203, 4, 4));
+    assert_eq!(events::event_at(&bytes, 1), event(2, 0x0302, 5, 6));
+    assert_eq!(events::event_at(&bytes, 4), event(5, 0x0607, 8, 10));
+    assert_eq!(events::event_at(&bytes[..9], 4), None);
+    for at in [6, 7, 10, 11, usize::MAX] {
+        assert_eq!(events::event_at(&bytes, at), None);
+    }
+    assert_eq!(events::event_at(&[], 0), None);
+}
+
+#[test]
+fn writing_event_frames() {
+    let mut out = [FILL; 10];
+    let request = asking(1, 2, 3, 4);
+    let short = events::write_request(request, &mut out[..REQUEST_FRAME - 1]);
+    assert_eq!(refused(short), (1, 0));
+    assert_eq!(refused(events::write_no_events(&mut out[..4])), (1, 0));
+    assert_eq!(out, [FILL; 10]);
+    assert_eq!(events::write_request(request, &mut out), Ok(REQUEST_FRAME));
+    assert_eq!(out[..7], [0xFD, 0x46, 0x10, 1, 2, 3, 4]);
+    assert_eq!(out[9], FILL);
+    for byte in 0..=0xFF {
+        let request = asking(byte, !byte, byte ^ 0x55, byte ^ 0xAA);
+        assert_eq!(events::read_request(&request.frame()), Ok(request));
+    }
+}
+
+// ---- Events: queues and polls -----------------------------------------------
+
+fn asking(minimum: u8, most: u8, confirmed: u8, flag: u8) -> events::Request {
+    events::Request {
+        minimum,
+        most,
+        confirmed,
+        flag,
+    }
+}
+
+/// An event of input register 1 and so on.
+fn change(identifier: u16, data: &[u8]) -> Event<'_> {
+    Event {
+        kind: 4,
+        identifier,
+        data,
+    }
+}
+
+/// A table of devices with these ids.
+fn devices(ids: &[u8]) -> Table {
+    let device = |(&address, serial)| Device { serial, address };
+    Table::unscanned(ids.iter().zip(1..).map(device)).unwrap()
+}
+
+/// Fresh queues, and what their polls give.
+struct Polling {
+    table: Table,
+    queues: Queues,
+}
+
+impl Polling {
+    fn of(ids: &[u8]) -> Polling {
+        let table = devices(ids);
+        let queues = Queues::fresh(&table).unwrap();
+        Polling { table, queues }
+    }
+
+    fn add(&mut self, id: u8, urgent: bool, event: Event<'_>) -> Result<(), Refusal> {
+        self.queues.add(&self.table, id, urgent, event)
+    }
+
+    /// What is sent, `None` for silence. The bytes on the bus are read back.
+    fn sent(&mut self, request: events::Request) -> Option<Sent> {
+        let mut offered = self.queues.clone();
+        let reply = self.queues.poll(&self.table, request).unwrap();
+        assert_eq!(offered.offer(&self.table, &request.frame()), Ok(reply));
+        assert_eq!(offered, self.queues);
+        let reply = reply?;
+        match (reply.sent(), events::read_answer(reply.bytes()).unwrap()) {
+            (Sent::NoEvents { .. }, events::Answer::NoEvents) => {}
+            (
+                Sent::Packet {
+                    sender,
+                    flag,
+                    events,
+                },
+                events::Answer::Packet(read),
+            ) => {
+                assert_eq!((read.sender(), read.flag()), (sender, flag));
+                assert_eq!(read.len(), usize::from(events));
+            }
+            other => panic!("{other:02X?}"),
+        }
+        Some(reply.sent())
+    }
+}
+
+fn sent(sender: u8, flag: u8, events: u8) -> Option<Sent> {
+    Some(Sent::Packet {
+        sender,
+        flag,
+        events,
+    })
+}
+
+fn no_events(sender: u8) -> Option<Sent> {
+    Some(Sent::NoEvents { sender })
+}
+
+#[test]
+fn queues_that_are_not_valid() {
+    let table = devices(&[1, 247]);
+    let slots = [0; 2 * SLOTS_LENGTH];
+    let none = [0, 0];
+    assert!(Queues::new(&table, [0, 1], none, none, slots).is_ok());
+    let mut urgent_2 = slots;
+    urgent_2[SLOTS_LENGTH] = 2;
+    let mut data_9 = slots;
+    data_9[SLOTS_LENGTH + 7 * SLOT_LENGTH + 1] = 9;
+    let refusals = [
+        refused(Queues::fresh(&devices(&[1, 0]))),
+        refused(Queues::fresh(&devices(&[1, 248]))),
+        refused(Queues::fresh(&devices(&[7, 7]))),
+        refused(Queues::new(&table, [0, 2], none, none, slots)),
+        refused(Queues::new(&table, none, [0, 1], none, slots)),
+        refused(Queues::new(&table, none, [0, 3], [0, 2], slots)),
+        refused(Queues::new(&table, none, none, [0, 9], slots)),
+        refused(Queues::new(&table, none, none, [0, 1], urgent_2)),
+        refused(Queues::new(&table, none, none, [0, 8], data_9)),
+        refused(Queues::new(&table, [0], none, none, slots)),
+        refused(Queues::new(&table, none, [0; 3], none, slots)),
+        refused(Queues::new(&table, none, none, [], slots)),
+        refused(Queues::new(&table, none, none, none, &slots[1..])),
+        refused(Queues::new(&table, none, none, none, [])),
+    ];
+    assert_eq!(refusals, [(2, 0); 14]);
+    // Slots behind those queued are not looked at.
+    assert!(Queues::new(&table, none, none, [8, 7], data_9).is_ok());
+    assert!(Queues::new(&table, none, [8, 0], [8, 0], urgent_2).is_ok());
+    assert!(Queues::fresh(&Table::default()).is_ok());
+}
+
+#[test]
+fn new_events_stand_behind_those_queued() {
+    let mut polling = Polling::of(&[9, 5]);
+    let data = [1, 2, 3, 4, 5, 6, 7, 8];
+    polling.add(5, false, change(0x01D0, &[4, 0])).unwrap();
+    polling.add(5, true, change(0xFFFE, &data)).unwrap();
+    let Polling { queues, .. } = polling;
+    assert_eq!(
+        (queues.counts(), queues.lasts()),
+        (&[0, 2][..], &[0, 0][..])
+    );
+    let slots = queues.slots()[SLOTS_LENGTH..].chunks(SLOT_LENGTH);
+    let slots: Vec<&[u8]> = slots.collect();
+    assert_eq!(slots[0][..7], [0, 2, 4, 0x01, 0xD0, 4, 0]);
+    assert_eq!(slots[1], [1, 8, 4, 0xFF, 0xFE, 1, 2, 3, 4, 5, 6, 7, 8]);
+    assert!(queues.slots()[..SLOTS_LENGTH].iter().all(|&byte| byte == 0));
+}
+
+#[test]
+fn new_events_refused() {
+    let mut polling = Polling::of(&[9, 5]);
+    for identifier in 0..MOST_QUEUED as u16 {
+        polling
+            .add(9, false, change(identifier, &[0; MOST_DATA]))
+            .unwrap();
+    }
+    let before = polling.queues.clone();
+    let nine = [0; MOST_DATA + 1];
+    assert_eq!(refused(polling.add(9, false, change(8, &[]))), (18, 0));
+    assert_eq!(refused(polling.add(9, false, change(8, &nine))), (13, 0));
+    assert_eq!(refused(polling.add(5, false, change(8, &nine))), (13, 0));
+    for id in [0, 4, 6, 248, 255] {
+        assert_eq!(refused(polling.add(id, false, change(8, &[]))), (13, 0));
+    }
+    let other = devices(&[9]);
+    let added = polling.queues.add(&other, 4, false, change(8, &nine));
+    assert_eq!(refused(added), (2, 0));
+    let polled = polling.queues.poll(&other, asking(0, 255, 0, 0));
+    assert_eq!(refused(polled), (2, 0));
+    assert_eq!(refused(polling.queues.offer(&other, &[])), (2, 0));
+    assert_eq!(polling.queues, before);
+}
+
+#[test]
+fn the_printed_packet_is_sent() {
+    let table = devices(&[5]);
+    let mut queues = Queues::new(&table, [1], [0], [0], [0; SLOTS_LENGTH]).unwrap();
+    queues
+        .add(&table, 5, false, change(0x01D0, &[4, 0]))
+        .unwrap();
+    let reply = queues.offer(&table, &EVENT_REQUEST).unwrap().unwrap();
+    // The key 105 has nine zero bits.
+    assert_eq!(reply.bytes(), [&[0xFF; 9], &PACKET[..]].concat());
+    assert_eq!(reply.as_ref(), reply.bytes());
+    assert_eq!(Some(reply.sent()), sent(5, 1, 1));
+    let reply = queues.poll(&table, asking(0, 0, 5, 1)).unwrap().unwrap();
+    // The key F05 has six.
+    assert_eq!(reply.bytes(), [&[0xFF; 6], &NO_EVENTS[..]].concat());
+    assert_eq!(Some(reply.sent()), no_events(5));
+}
+
+#[test]
+fn urgent_events_then_others_then_none() {
+    let mut polling = Polling::of(&[200, 3, 100]);
+    assert_eq!(polling.sent(asking(0, 255, 0, 0)), no_events(3));
+    polling.add(200, false, change(1, &[])).unwrap();
+    assert_eq!(polling.sent(asking(0, 255, 0, 0)), sent(200, 0, 1));
+    polling.add(100, false, change(1, &[])).unwrap();
+    assert_eq!(polling.sent(asking(0, 255, 0, 0)), sent(100, 0, 1));
+    polling.add(200, true, change(2, &[])).unwrap();
+    assert_eq!(polling.sent(asking(0, 255, 0, 0)), sent(200, 0, 2));
+    // The marker looks at the whole queue, also where only its oldest fits.
+    assert_eq!(polling.sent(asking(0, 4, 0, 0)), sent(200, 0, 1));
+    // Below the minimum, and above all.
+    assert_eq!(polling.sent(asking(4, 255, 0, 0)), sent(200, 0, 2));
+    assert_eq!(polling.sent(asking(201, 255, 0, 0)), None);
+    assert_eq!(polling.queues.lasts(), [2, 0, 1]);
+}
+
+#[test]
+fn as_many_of_the_oldest_as_fit() {
+    let mut polling = Polling::of(&[6, 7]);
+    for (identifier, size) in [(1, 0), (2, 8), (3, 0)] {
+        let data = &[0x11; 8][..size];
+        polling.add(6, false, change(identifier, data)).unwrap();
+    }
+    for (most, events) in [(4, 1), (15, 1), (16, 2), (19, 2), (20, 3), (255, 3)] {
+        assert_eq!(polling.sent(asking(0, most, 0, 0)), sent(6, 0, events));
+        assert_eq!(polling.queues.lasts(), [events, 0]);
+    }
+    // Who has nothing that fits sits out; if all do, there is silence.
+    assert_eq!(polling.sent(asking(0, 3, 0, 0)), no_events(7));
+    polling.add(7, true, change(4, &[1])).unwrap();
+    assert_eq!(polling.sent(asking(0, 4, 0, 0)), sent(6, 0, 1));
+    assert_eq!(polling.sent(asking(0, 3, 0, 0)), None);
+    assert_eq!(polling.queues.lasts(), [1, 0]);
+}
+
+#[test]
+fn a_confirmation_drops_a_packet_once() {
+    let mut polling = Polling::of(&[6]);
+    for identifier in 1..=3 {
+        polling.add(6, false, change(identifier, &[])).unwrap();
+    }
+    // Nothing was sent, so that nothing is confirmed.
+    assert_eq!(polling.sent(asking(0, 4, 6, 0)), sent(6, 0, 1));
+    for (id, flag) in [(6, 1), (6, 2), (6, 255), (5, 0), (0, 0)] {
+        assert_eq!(polling.sent(asking(0, 8, id, flag)), sent(6, 0, 2));
+        assert_eq!(polling.queues.counts(), [3]);
+    }
+    assert_eq!(polling.sent(asking(0, 8, 6, 0)), sent(6, 1, 1));
+    assert_eq!(polling.queues.slots()[..5], [0, 0, 4, 0, 3]);
+    assert_eq!(polling.sent(asking(0, 8, 6, 0)), sent(6, 1, 1));
+    assert_eq!(polling.queues.counts(), [1]);
+    // It reaches a device below the minimum, and comes before silence.
+    assert_eq!(polling.sent(asking(7, 8, 6, 1)), None);
+    assert_eq!(polling.queues.counts(), [0]);
+    assert_eq!(polling.queues.flags(), [0]);
+    assert_eq!(polling.sent(asking(0, 8, 6, 0)), no_events(6));
+    assert_eq!(polling.queues.flags(), [0]);
+}
+
+#[test]
+fn room_freed_by_a_confirmation_is_used_again() {
+    let mut polling = Polling::of(&[6]);
+    for identifier in 0..8 {
+        polling.add(6, false, change(identifier, &[])).unwrap();
+    }
+    assert_eq!(polling.sent(asking(0, 12, 0, 0)), sent(6, 0, 3));
+    assert_eq!(refused(polling.add(6, false, change(8, &[]))), (18, 0));
+    assert_eq!(polling.sent(asking(0, 12, 6, 0)), sent(6, 1, 3));
+    for identifier in 8..11 {
+        polling.add(6, false, change(identifier, &[])).unwrap();
+    }
+    assert_eq!(refused(polling.add(6, false, change(11, &[]))), (18, 0));
+    let slots = polling.queues.slots().chunks(SLOT_LENGTH);
+    let identifiers: Vec<u8> = slots.map(|slot| slot[4]).collect();
+    assert_eq!(identifiers, [3, 4, 5, 6, 7, 8, 9, 10]);
+}
+
+#[test]
+fn scans_and_polls_leave_each_other_alone() {
+    let mut polling = Polling::of(&[6, 5]);
+    polling.add(6, true, change(1, &[])).unwrap();
+    let before = polling.queues.clone();
+    assert_eq!(polling.table.scan(100).requests(), 3);
+    assert_eq!(polling.queues, before);
+    assert_eq!(polling.sent(asking(0, 4, 0, 0)), sent(6, 0, 1));
+    assert_eq!(polling.table.marks(), [1, 1]);
+}
+
+#[test]
+fn lent_queues_refuse_short_answers_then_the_table_then_the_frame() {
+    let (mut flags, mut lasts, mut counts) = ([0, 2], [1, 0], [1, 0]);
+    let mut slots = [0; 2 * SLOTS_LENGTH];
+    let mut lent = events::Columns {
+        serials: &[5, 9],
+        addresses: &[1, 2],
+        marks: &[0, 1],
+        flags: &mut flags,
+        lasts: &mut lasts,
+        counts: &mut counts,
+        slots: &mut slots,
+    };
+    let mut answer = [FILL; POLL_ROOM + 1];
+    let confirming = asking(0, 100, 1, 0);
+    for room in [0, POLL_ROOM - 1] {
+        assert_eq!(refused(lent.poll(confirming, &mut answer[..room])), (1, 0));
+        assert_eq!(refused(lent.offer(&[], &mut answer[..room])), (1, 0));
+    }
+    assert!(!lent.is_valid());
+    assert_eq!(refused(lent.poll(confirming, &mut answer)), (2, 0));
+    assert_eq!(refused(lent.offer(&[], &mut answer)), (2, 0));
+    assert_eq!(refused(lent.add(7, true, change(1, &[0; 9]))), (2, 0));
+    lent.flags[1] = 1;
+    assert!(lent.is_valid());
+    assert_eq!(refused(lent.offer(&[], &mut answer)), (13, 0));
+    assert_eq!(refused(lent.offer(&START, &mut answer)), (15, 2));
+    assert_eq!((&*lent.flags, &*lent.counts), (&[0, 1][..], &[1, 0][..]));
+    assert_eq!(answer, [FILL; POLL_ROOM + 1]);
+    // The key F01 has seven zero bits.
+    let polled = Polled {
+        sent: Sent::NoEvents { sender: 1 },
+        length: 12,
+    };
+    let answered = lent.poll(confirming, &mut answer[..POLL_ROOM]);
+    assert_eq!(answered, Ok(Some(polled)));
+    assert_eq!(answer[..12], [&[0xFF; 7], &NO_EVENTS[..]].concat());
+    assert!(answer[12..].iter().all(|&byte| byte == FILL));
+    assert_eq!((&*lent.flags, &*lent.counts), (&[1, 1][..], &[0, 0][..]));
+    assert_eq!(lent.lasts, [0, 0]);
+}
+
+#[test]
+fn the_most_devices_with_full_queues() {
+    let ids: Vec<u8> = (1..=MOST_DEVICES as u8).rev().collect();
+    let mut polling = Polling::of(&ids);
+    for &id in &ids {
+        for identifier in 0..8 {
+            polling
+                .add(id, false, change(identifier, &[id; 8]))
+                .unwrap();
+        }
+    }
+    assert_eq!(polling.sent(asking(0, 96, 0, 0)), sent(1, 0, 8));
+    assert_eq!(polling.sent(asking(247, 95, 0, 0)), sent(247, 0, 7));
+    // Each in turn, until nobody has events.
+    for id in 1..247 {
+        assert_eq!(polling.sent(asking(0, 96, id, 0)), sent(id + 1, 0, 8));
+    }
+    assert_eq!(polling.sent(asking(0, 96, 247, 0)), no_events(1));
 }

@@ -3,6 +3,7 @@
 pub mod LeadingFill
 pub mod ReaderOutcomes
 pub mod FrameLengths
+pub mod BehindFill
 pub mod Carried
 pub mod RoundTrip
 pub mod Worked

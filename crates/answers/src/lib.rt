@@ -16,11 +16,11 @@ use refusal::SERIAL_OVER;
 use refusal::Written;
 ghost use mathlib.Core.Path.{_≡_};
 ghost use mathlib.Mathlib.Logic.Function.Defs.{id};
-ghost use Prim.Native.Nat.{_+_, _*_, _<_};
+ghost use Prim.Native.Nat.{_+_, _*_, _<_, min};
 ghost use lib.ListN.{length, getD, drop};
 ghost use Rattle.refusal.specs.Output.{Wrote};
 ghost use Rattle.answers.specs.Reading.{serialOf, skipped, found, answerAt, readAnswer};
-ghost use Rattle.answers.specs.Writing.{writeFound, writeEnd};
+ghost use Rattle.answers.specs.Writing.{filled, writeFound, writeEnd};
 
 // The byte that a dominant window puts before an answer.
 pub const FILL: u8 = 0xFF;
@@ -110,6 +110,19 @@ pub fn read_answer(input: &[u8]) -> AnswerRead
 }
 
 // ---- writing
+
+// Puts so many FF at the start of an output, one for each dominant window, as many as it has room
+// for.
+pub fn put_fill(count: usize, out: &mut [u8])
+    ensures { λ _. ⌜ now (out .exit) ≡ filled (min count (length (now (out .entry)))) (now (out .entry)) ⌝ }
+{
+    let n = lists::smaller(count, out.len());
+    let mut at = 0;
+    while at < n {
+        out[at] = FILL;
+        at += 1;
+    }
+}
 
 // Writes the answer of a device with this serial and this address. A serial of 2^28 or more is
 // refused before the room is looked at.

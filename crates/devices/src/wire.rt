@@ -1,32 +1,18 @@
 // The devices' answer as the bytes that it puts on the bus.
 use crate::Response;
-use answers::FILL;
+use answers::put_fill;
 use framing::END_LENGTH;
 use framing::FOUND_LENGTH;
 use turns::Answer;
 ghost use mathlib.Core.Path.{_≡_};
-ghost use mathlib.Core.List.{_++_};
 ghost use Prim.Native.Nat.{_≤_, _<_};
-ghost use lib.ListN.{length, replicate, drop};
+ghost use lib.ListN.{length};
 ghost use Rattle.lists.specs.Starting.{starting};
-ghost use Rattle.answers.specs.Reading.{fill};
 ghost use Rattle.devices.specs.Calls.{answerBytes, responseTo, answerRoom};
 ghost use Rattle.turns.specs.Request.{windows};
 ghost use Rattle.table.specs.Table.{serialLimit};
 ghost use Rattle.turns.specs.declared.Answer.the-variants.{Found, End};
 ghost use Rattle.turns.specs.Inner.{Writable};
-
-// Puts so many FF at the start of the answer.
-fn put_fill(count: usize, answer: &mut [u8])
-    requires { ⌜ count ≤ length (now answer) ⌝ }
-    ensures { λ _. ⌜ now (answer .exit) ≡ replicate count fill ++ drop count (now (answer .entry)) ⌝ }
-{
-    let mut i = 0;
-    while i < count {
-        answer[i] = FILL;
-        i += 1;
-    }
-}
 
 // One FF for each dominant window, then the frame of a device found. There is room for both, so the
 // frame is written whole.

@@ -7,3 +7,4 @@ pub mod Tests
 pub mod All
 pub mod Position
 pub mod Counting
+pub mod Behind

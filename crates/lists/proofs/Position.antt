@@ -30,3 +30,13 @@ unfolding position
 position-nowhere x [] other = refl
 position-nowhere x (y ∷ ys) other =
     ap (λ (b : Bool). pick b 0 (suc (position x ys))) (ne-eqb y x (other 0 (omega arith))) ∙ ap suc (position-nowhere x ys (λ i h. other (suc i) (omega arith)))
+
+-- where a number is found within the list, it stands
+pub position-holds : (x : ℕ) (xs : List ℕ) → position x xs < length xs → getD xs (position x xs) 0 ≡ x
+unfolding position
+position-holds x [] h = let z : ⊥ = omega arith in absurd z
+position-holds x (y ∷ ys) h =
+    by-test (eqb y x)
+    (λ here. subst (λ (b : Bool). getD (y ∷ ys) (pick b 0 (suc (position x ys))) 0 ≡ x) (sym here) (eqb-true y x here))
+    (λ later. let at : pick (eqb y x) 0 (suc (position x ys)) ≡ suc (position x ys) = ap (λ (b : Bool). pick b 0 (suc (position x ys))) later in
+    subst (λ (b : Bool). getD (y ∷ ys) (pick b 0 (suc (position x ys))) 0 ≡ x) (sym later) (position-holds x ys (omega (arith, at, h))))

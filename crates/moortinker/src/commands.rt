@@ -1,24 +1,20 @@
 // The commands by their names, each with what its line takes: bytes, nothing, or words of its own.
-use crate::desk::Desk;
-use crate::desk::FULL;
-use crate::desk::MOST_ROOM;
-use crate::desk::no_rows;
 use crate::device_commands;
 use crate::device_commands::Asked;
 use crate::ebus_commands;
-use crate::fault::EXTRA;
-use crate::fault::UNKNOWN_COMMAND;
 use crate::help;
-use crate::hex;
-use crate::hex::BytesRead;
 use crate::listening_commands;
 use crate::modbus_commands;
-use crate::number::NumberRead;
-use crate::number::last_number;
-use crate::part::start_of;
-use crate::say::Page;
-use crate::texts;
-use crate::word;
+use desk::hex;
+use desk::hex::BytesRead;
+use desk::number::NumberRead;
+use desk::number::last_number;
+use desk::part::start_of;
+use desk::say::Page;
+use desk::state::Desk;
+use desk::state::FULL;
+use desk::state::MOST_ROOM;
+use desk::word;
 
 // What a line is answered. An empty line and a comment are answered nothing.
 pub(crate) fn answer(line: &[u8], d: Desk) -> Desk {
@@ -36,7 +32,8 @@ pub(crate) fn answer(line: &[u8], d: Desk) -> Desk {
 }
 
 // The names of the commands on the bytes that the rest of the line is, of those that take no word,
-// and of those with words of their own. A command's number is the place of its name in this list.
+// and of those with words of their own. A command's number is the place of its name in this list. The
+// commands of events have a list of their own.
 fn by_name(name: &[u8], line: &[u8], at: usize, d: Desk) -> Desk {
     let command = word::place(
         b"ebus-check expand undo judge write-reply modbus-check read-request read-answer feed
@@ -50,7 +47,10 @@ kind write-command write-request write-found device offer scan room",
     if command < 17 {
         return alone(command, line, at, d);
     }
-    with_words(command, line, at, d)
+    if command < 25 {
+        return with_words(command, line, at, d);
+    }
+    eventdesk::by_name(name, line, at, d)
 }
 
 fn on_bytes(command: usize, line: &[u8], at: usize, d: Desk) -> Desk {
@@ -83,15 +83,15 @@ fn with_bytes(command: usize, input: &[u8], room: usize, page: Page) -> Page {
 
 fn alone(command: usize, line: &[u8], at: usize, d: Desk) -> Desk {
     if word::more(line, at) {
-        return extra(line, at, d);
+        return d.extra(line, at);
     }
     match command {
         9 => d.with_page(modbus_commands::write_end(d.room, d.page)),
-        10 => ok(d.with_table(no_rows())),
+        10 => d.forgotten().ok(),
         11 => device_commands::show(d),
         12 => device_commands::request(Asked::Start, d),
         13 => device_commands::request(Asked::Continue, d),
-        14 => ok(d.with_listening(listening::listen(), d.page)),
+        14 => d.with_listening(listening::listen(), d.page).ok(),
         15 => listening_commands::close(d),
         _ => d.with_page(help::commands(d.page)),
     }
@@ -106,36 +106,18 @@ fn with_words(command: usize, line: &[u8], at: usize, d: Desk) -> Desk {
         21 => device_commands::device(line, at, d),
         22 => device_commands::offer(line, at, d),
         23 => device_commands::scan(line, at, d),
-        24 => room(line, at, d),
-        _ => unknown(line, d),
+        _ => room(line, at, d),
     }
-}
-
-// The line's first word is no command.
-fn unknown(line: &[u8], d: Desk) -> Desk {
-    let w = word::next(line, 0);
-    d.wrong_at(UNKNOWN_COMMAND, w.from)
-}
-
-// A word stands behind what the command takes.
-pub(crate) fn extra(line: &[u8], at: usize, d: Desk) -> Desk {
-    let w = word::next(line, at);
-    d.wrong_at(EXTRA, w.from)
-}
-
-// The command is obeyed, and has nothing else to say.
-pub(crate) fn ok(d: Desk) -> Desk {
-    d.with_page(texts::plain(d.page, texts::OK))
 }
 
 // `room` alone is the full size again; with a number each lent output has that many bytes.
 fn room(line: &[u8], at: usize, d: Desk) -> Desk {
     if !word::more(line, at) {
-        return ok(d.with_room(FULL));
+        return d.with_room(FULL).ok();
     }
     let read = last_number(line, at, MOST_ROOM as u64);
     match read {
         NumberRead::Wrong(why) => d.wrong(why),
-        NumberRead::Number(n, _) => ok(d.with_room(n as usize)),
+        NumberRead::Number(n, _) => d.with_room(n as usize).ok(),
     }
 }

@@ -1,30 +1,30 @@
 // The tool's table, and the devices' side of a scan over it. Each call of the library is lent the
 // rows that the table has.
-use crate::commands::ok;
-use crate::desk::Desk;
-use crate::desk::FILL;
-use crate::desk::FULL;
-use crate::desk::MOST_ROOM;
-use crate::desk::MOST_ROWS;
-use crate::desk::Table;
-use crate::fault::Fault;
-use crate::fault::TABLE_FULL;
-use crate::hex;
-use crate::hex::BytesRead;
-use crate::number::NumberRead;
-use crate::number::digits;
-use crate::number::fault_of;
-use crate::number::last_number;
-use crate::part::lent;
-use crate::part::lent_serials;
-use crate::part::serials_of;
-use crate::part::start_of;
-use crate::say;
-use crate::say::Page;
-use crate::say::one;
-use crate::say::three;
-use crate::say::two;
-use crate::texts;
+use desk::fault::Fault;
+use desk::fault::TABLE_FULL;
+use desk::hex;
+use desk::hex::BytesRead;
+use desk::number::NumberRead;
+use desk::number::digits;
+use desk::number::fault_of;
+use desk::number::last_number;
+use desk::part::column;
+use desk::part::lent;
+use desk::part::lent_serials;
+use desk::part::serials_of;
+use desk::part::start_of;
+use desk::say;
+use desk::say::Page;
+use desk::say::one;
+use desk::say::three;
+use desk::say::two;
+use desk::state::Desk;
+use desk::state::FILL;
+use desk::state::FULL;
+use desk::state::MOST_ROOM;
+use desk::state::MOST_ROWS;
+use desk::state::Table;
+use desk::texts;
 use devices::Response;
 use devices::Scanned;
 
@@ -85,7 +85,7 @@ pub(crate) fn device(line: &[u8], at: usize, d: Desk) -> Desk {
                 addresses,
                 marks,
             };
-            ok(d.with_table(longer))
+            d.with_table(longer).ok()
         }
     }
 }
@@ -97,8 +97,8 @@ pub(crate) fn show(d: Desk) -> Desk {
     let addresses = table.addresses;
     let marks = table.marks;
     let s = serials_of(&serials, rows);
-    let a = start_of(&addresses, rows);
-    let m = start_of(&marks, rows);
+    let a = column(&addresses, rows);
+    let m = column(&marks, rows);
     let head = valid_text(table::valid(s, a, m));
     let page = texts::text(d.page, head, one(rows as u64));
     d.with_page(say_rows(rows, s, a, m, page))
@@ -168,16 +168,12 @@ pub(crate) fn request(asked: Asked, d: Desk) -> Desk {
 fn ask(asked: Asked, frame: &[u8], d: Desk) -> Desk {
     let mut answer = [FILL; FULL];
     let table = d.table;
-    let rows = table.rows;
-    let serials = table.serials;
-    let addresses = table.addresses;
     let mut marks = table.marks;
     let a = response(
         asked,
         frame,
-        serials_of(&serials, rows),
-        start_of(&addresses, rows),
-        lent(&mut marks, rows),
+        table,
+        lent(&mut marks, table.rows),
         lent(&mut answer, d.room),
     );
     let page = say_answer(a, &answer, d.page);
@@ -196,15 +192,19 @@ pub(crate) fn offer(line: &[u8], at: usize, d: Desk) -> Desk {
 fn response(
     asked: Asked,
     frame: &[u8],
-    serials: &[u32],
-    addresses: &[u8],
+    table: Table,
     marks: &mut [u8],
     answer: &mut [u8],
 ) -> Response {
+    let rows = table.rows;
+    let serials = table.serials;
+    let addresses = table.addresses;
+    let s = serials_of(&serials, rows);
+    let a = column(&addresses, rows);
     match asked {
-        Asked::Start => devices::start(serials, addresses, marks, answer),
-        Asked::Continue => devices::resume(serials, addresses, marks, answer),
-        Asked::Frame => devices::offer(frame, serials, addresses, marks, answer),
+        Asked::Start => devices::start(s, a, marks, answer),
+        Asked::Continue => devices::resume(s, a, marks, answer),
+        Asked::Frame => devices::offer(frame, s, a, marks, answer),
     }
 }
 
@@ -236,7 +236,7 @@ fn scanned(cap: usize, d: Desk) -> Desk {
     let mut marks = table.marks;
     let s = devices::scan(
         serials_of(&serials, rows),
-        start_of(&addresses, rows),
+        column(&addresses, rows),
         lent(&mut marks, rows),
         lent_serials(&mut found_serials, d.room),
         lent(&mut found_addresses, d.room),

@@ -1,23 +1,23 @@
 // The commands of eBUS. Each is one call of the library.
-use crate::commands::extra;
-use crate::desk::Desk;
-use crate::desk::FILL;
-use crate::desk::FULL;
-use crate::fault::Fault;
-use crate::hex;
-use crate::hex::BytesRead;
-use crate::number::NumberRead;
-use crate::number::digits;
-use crate::number::fault_of;
-use crate::part::lent;
-use crate::part::start_of;
-use crate::say;
-use crate::say::Page;
-use crate::say::one;
-use crate::say::three;
-use crate::texts;
-use crate::word;
 use addresses::ExchangeKind;
+use desk::hex;
+use desk::hex::BytesRead;
+use desk::number::Four;
+use desk::number::FourRead;
+use desk::number::NumberRead;
+use desk::number::digits;
+use desk::number::four_bytes;
+use desk::part::lent;
+use desk::part::start_of;
+use desk::say;
+use desk::say::Page;
+use desk::say::one;
+use desk::say::three;
+use desk::state::Desk;
+use desk::state::FILL;
+use desk::state::FULL;
+use desk::texts;
+use desk::word;
 use exchange::judge::Judged;
 
 pub(crate) fn check(input: &[u8], page: Page) -> Page {
@@ -49,7 +49,7 @@ pub(crate) fn kind(line: &[u8], at: usize, d: Desk) -> Desk {
         NumberRead::Wrong(why) => d.wrong(why),
         NumberRead::Number(destination, next) => {
             if word::more(line, next) {
-                return extra(line, next, d);
+                return d.extra(line, next);
             }
             let found = addresses::kind((destination % 256) as u8);
             let said = texts::plain(d.page, kind_text(found));
@@ -136,57 +136,17 @@ fn say_replies<'a>(first: &'a [u8], second: &'a [u8], replies: u8, page: Page) -
     say::named(b, texts::DATA, data)
 }
 
-// ---- writing a command
-
-// The four bytes before LEN.
-struct Head {
-    source: u8,
-    destination: u8,
-    primary: u8,
-    secondary: u8,
-}
-
-// A head, and where the data begins, or what was wrong.
-enum HeadRead {
-    Head(Head, usize),
-    Wrong(Fault),
-}
-
-fn read_head(line: &[u8], at: usize) -> HeadRead {
-    let first = digits(line, at, 2);
-    let NumberRead::Number(source, second_at) = first else {
-        return HeadRead::Wrong(fault_of(first));
-    };
-    let second = digits(line, second_at, 2);
-    let NumberRead::Number(destination, third_at) = second else {
-        return HeadRead::Wrong(fault_of(second));
-    };
-    let third = digits(line, third_at, 2);
-    let NumberRead::Number(primary, fourth_at) = third else {
-        return HeadRead::Wrong(fault_of(third));
-    };
-    let fourth = digits(line, fourth_at, 2);
-    let NumberRead::Number(secondary, data_at) = fourth else {
-        return HeadRead::Wrong(fault_of(fourth));
-    };
-    let head = Head {
-        source: (source % 256) as u8,
-        destination: (destination % 256) as u8,
-        primary: (primary % 256) as u8,
-        secondary: (secondary % 256) as u8,
-    };
-    HeadRead::Head(head, data_at)
-}
+// ---- writing a command: SRC, DST, PB and SB, then the data
 
 pub(crate) fn write_command(line: &[u8], at: usize, d: Desk) -> Desk {
-    let read = read_head(line, at);
+    let read = four_bytes(line, at, true);
     match read {
-        HeadRead::Wrong(why) => d.wrong(why),
-        HeadRead::Head(head, data_at) => write_behind(head, line, data_at, d),
+        FourRead::Wrong(why) => d.wrong(why),
+        FourRead::Bytes(head, data_at) => write_behind(head, line, data_at, d),
     }
 }
 
-fn write_behind(head: Head, line: &[u8], data_at: usize, d: Desk) -> Desk {
+fn write_behind(head: Four, line: &[u8], data_at: usize, d: Desk) -> Desk {
     let mut store = [0u8; hex::MOST];
     let read = hex::bytes(line, data_at, &mut store);
     match read {
@@ -198,13 +158,13 @@ fn write_behind(head: Head, line: &[u8], data_at: usize, d: Desk) -> Desk {
     }
 }
 
-fn write_whole(head: Head, data: &[u8], room: usize, page: Page) -> Page {
+fn write_whole(head: Four, data: &[u8], room: usize, page: Page) -> Page {
     let mut out = [FILL; FULL];
     let w = sending::write_command(
-        head.source,
-        head.destination,
-        head.primary,
-        head.secondary,
+        head.first,
+        head.second,
+        head.third,
+        head.fourth,
         data,
         lent(&mut out, room),
     );

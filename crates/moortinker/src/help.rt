@@ -1,7 +1,7 @@
 // What the commands are.
-use crate::say;
-use crate::say::Page;
-use crate::say::no_number;
+use desk::say;
+use desk::say::Page;
+use desk::say::no_number;
 
 // One line on what this is, for a person at a terminal.
 pub(crate) fn greet(page: Page) -> Page {
@@ -45,6 +45,20 @@ pub(crate) fn commands(page: Page) -> Page {
   start, continue       send a scan request to the devices
   offer HEX             offer them a raw frame
   scan NUM              scan the whole table, NUM requests at most
+  event BYTE urgent BYTE WORD HEX
+                        queue an event (or: normal) for a device, by its id:
+                        type, identifier, data
+  stored NUM NUM NUM NUM
+                        set a row, from 0 on: flag, last packet, events queued
+  queues                show the queues
+  poll BYTE BYTE BYTE BYTE
+                        poll for events: minimum, length, id confirmed, flag
+  offer-poll HEX        offer the devices a raw poll
+  read-poll HEX         read a poll
+  write-poll BYTE BYTE BYTE BYTE
+                        write a poll
+  write-no-events       write the answer that nobody has events
+  read-events HEX       read the answer to a poll
 ",
         no_number(),
     )

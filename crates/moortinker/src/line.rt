@@ -56,21 +56,6 @@ impl Window {
     }
 }
 
-// The first newline from `from` on, or `to` where there is none before it.
-pub(crate) fn end_of(input: &[u8], from: usize, to: usize) -> usize {
-    let mut i = from;
-    while i < to {
-        if input.len() <= i {
-            return to;
-        }
-        if input[i] == b'\n' {
-            return i;
-        }
-        i += 1;
-    }
-    to
-}
-
 // The end of a line without a carriage return before its newline.
 pub(crate) fn trimmed(input: &[u8], from: usize, to: usize) -> usize {
     if to <= from {

@@ -1,12 +1,12 @@
 // Bytes as they arrive: the tool holds one listening state.
-use crate::desk::Desk;
-use crate::desk::FILL;
-use crate::desk::FULL;
 use crate::ebus_commands::say_judged;
-use crate::part::lent;
-use crate::part::start_of;
-use crate::say::one;
-use crate::texts;
+use desk::part::lent;
+use desk::part::start_of;
+use desk::say::one;
+use desk::state::Desk;
+use desk::state::FILL;
+use desk::state::FULL;
+use desk::texts;
 
 // How many bytes of this run were used, and whether the answer is known now.
 pub(crate) fn feed(run: &[u8], d: Desk) -> Desk {

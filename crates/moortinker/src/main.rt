@@ -1,24 +1,17 @@
 // The desk tool: reads commands from standard input, one a line, and writes what the proved library
 // answers.
 mod commands;
-mod desk;
 mod device_commands;
 mod ebus_commands;
-mod fault;
 mod help;
-mod hex;
 mod line;
 mod listening_commands;
 mod modbus_commands;
-mod names;
-mod number;
-mod part;
-mod say;
-mod texts;
-mod word;
 
-use desk::Desk;
-use fault::LINE_TOO_LONG;
+use desk::fault::LINE_TOO_LONG;
+use desk::state;
+use desk::state::Desk;
+use desk::word;
 use line::Window;
 
 // What the loop over lines carries. `over` says that the input has ended.
@@ -47,7 +40,7 @@ fn session(input: &mut [u8]) {
     let mut turns = u64::MAX;
     let mut s = State {
         window: line::new(),
-        desk: greeted(desk::new()),
+        desk: greeted(state::new()),
         over: false,
     };
     while turns > 0 {
@@ -63,7 +56,7 @@ fn session(input: &mut [u8]) {
 fn turn(s: State, input: &mut [u8]) -> State {
     let window = s.window;
     let to = window.to;
-    let end = line::end_of(input, window.from, to);
+    let end = word::end_of(input, window.from, to);
     if end < to {
         let desk = obey(window, end, s.desk, input);
         return State {

@@ -1,20 +1,19 @@
 // The commands of Fast Modbus frames. Each is one call of the library.
-use crate::commands::extra;
-use crate::desk::Desk;
-use crate::desk::FILL;
-use crate::desk::FULL;
-use crate::fault::MISSING;
-use crate::fault::NOT_REQUEST;
-use crate::number::NumberRead;
-use crate::number::digits;
-use crate::number::fault_of;
-use crate::part::lent;
-use crate::say;
-use crate::say::Page;
-use crate::say::two;
-use crate::texts;
-use crate::word;
 use answers::AnswerRead;
+use desk::fault::MISSING;
+use desk::fault::NOT_REQUEST;
+use desk::number::NumberRead;
+use desk::number::digits;
+use desk::number::fault_of;
+use desk::part::lent;
+use desk::say;
+use desk::say::Page;
+use desk::say::two;
+use desk::state::Desk;
+use desk::state::FILL;
+use desk::state::FULL;
+use desk::texts;
+use desk::word;
 use requests::Request;
 use requests::RequestRead;
 
@@ -57,7 +56,7 @@ pub(crate) fn write_request(line: &[u8], at: usize, d: Desk) -> Desk {
         return d.wrong_at(MISSING, w.from);
     }
     if word::more(line, w.to) {
-        return extra(line, w.to, d);
+        return d.extra(line, w.to);
     }
     let request = word::place(b"start continue", name);
     match request {
@@ -83,7 +82,7 @@ pub(crate) fn write_found(line: &[u8], at: usize, d: Desk) -> Desk {
         return d.wrong(fault_of(second));
     };
     if word::more(line, end) {
-        return extra(line, end, d);
+        return d.extra(line, end);
     }
     let serial = (serial % 0x100000000) as u32;
     let address = (address % 256) as u8;

@@ -10,8 +10,8 @@ use lib.Dec.{eqb}
 use lib.ListN.{length, take, drop, length-drop, take-append-drop}
 use lib.Seq.{drop-append-le, take-append-le, length-take-le, take-take, take-append-seam}
 use Rattle.lists.specs.Choice.{pick}
-use Rattle.queues.specs.Queues.{Queued, queuedIn, queuedFrom}
-use Rattle.queues.specs.Event.{event, slotBytes}
+use Rattle.events.specs.Events.{eventBytes}
+use Rattle.queues.specs.Queues.{Queued, slotBytes, queuedIn, queuedFrom}
 use Rattle.queues.proofs.SlotsRight.{further}
 
 -- so many events at the start of a list are there whatever stands behind them
@@ -29,6 +29,12 @@ events-same n slots rest h =
     ∙ sym (events-front n (take (13 * n) slots) (drop (13 * n) slots) (omega arith))
     ∙ ap (queuedFrom n) (take-append-drop (13 * n) slots)
 
+-- there are so many
+pub queued-length : (n : ℕ) (slots : List ℕ) → length (queuedFrom n slots) ≡ n
+unfolding queuedFrom
+queued-length zero slots = refl
+queued-length (suc n) slots = ap suc (queued-length n (drop 13 slots))
+
 -- one event more
 pub events-more : (n : ℕ) (slots : List ℕ) → queuedFrom (suc n) slots ≡ queuedFrom n slots ++ queuedIn (take 13 (drop (13 * n) slots)) ∷ []
 unfolding queuedFrom
@@ -43,9 +49,12 @@ read-urgent : (urgent : Bool) → eqb (pick urgent 1 0) 1 ≡ urgent
 read-urgent true = refl
 read-urgent false = refl
 
-pub event-read : (e : Queued) (rest : List ℕ) → length (e .payload) ≤ 8 → queuedIn (take 13 (slotBytes e ++ rest)) ≡ e
+pub event-read : (e : Queued) (rest : List ℕ) → length (e .event .payload) ≤ 8 → queuedIn (take 13 (slotBytes e ++ rest)) ≡ e
+unfolding eventBytes
 event-read e rest few =
-    let data-is : take (length (e .payload)) (take 8 (e .payload ++ rest)) ≡ e .payload =
-    take-take (length (e .payload)) 8 (e .payload ++ rest) few ∙ take-append-seam (e .payload) rest in
-    ap (λ (b : Bool). event b (e .kind) (e .identifier / 256 * 256 + e .identifier % 256) (take (length (e .payload)) (take 8 (e .payload ++ rest)))) (read-urgent (e .urgent))
-    ∙ ap₂ (λ (i : ℕ) (bytes : List ℕ). event (e .urgent) (e .kind) i bytes) (div-add-mod' (e .identifier) 256) data-is
+    let payload = e .event .payload in
+    let identifier = e .event .identifier in
+    let made : Bool → ℕ → List ℕ → Queued = λ urgent i bytes. record { urgent = urgent; event = record { kind = e .event .kind; identifier = i; payload = bytes } } in
+    let data-is : take (length payload) (take 8 (payload ++ rest)) ≡ payload = take-take (length payload) 8 (payload ++ rest) few ∙ take-append-seam payload rest in
+    ap (λ (b : Bool). made b (identifier / 256 * 256 + identifier % 256) (take (length payload) (take 8 (payload ++ rest)))) (read-urgent (e .urgent))
+    ∙ ap₂ (made (e .urgent)) (div-add-mod' identifier 256) data-is

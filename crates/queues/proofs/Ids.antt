@@ -1,34 +1,23 @@
 -- Ids told apart by a place for each byte: a place is taken exactly where the id stands among those passed.
 -- Assumes nothing.
 use mathlib.Core.Path.{_≡_, sym, ap, _∙_, subst}
-use mathlib.Core.Bool.{Bool, true, false, _&&_}
+use mathlib.Core.Bool.{true, false, _&&_}
 use mathlib.Core.List.{List}
 use mathlib.Core.Logic.{⊎-elim}
 use Prim.Native.Nat.{ℕ, _+_, _≤_, _<_}
 use native.Mathlib.Omega.{arith}
-use lib.Dec.{leb}
 use lib.ListN.{length, getD, set, replicate, length-set, length-replicate, getD-replicate, List·getD-eq-default}
 use lib.Seq.{getD-set-same, getD-set-other}
-use borrow.Author.Tests.{le-leb, lt-leb}
 use Rattle.lists.specs.Tests.{all, different}
 use Rattle.lists.proofs.All.{all-at, all-from, different-at, different-from}
 use Rattle.lists.proofs.Cases.{by-test, true-not-false, same-or-not, le-or-lt, both, both-first, both-second}
-use Rattle.queues.specs.Queues.{idRight}
-
-pub id-low : (id : ℕ) → id < 1 → idRight id ≡ false
-id-low id h = ap (λ (b : Bool). b && leb id 247) (lt-leb 1 id h)
-
-pub id-high : (id : ℕ) → 247 < id → idRight id ≡ false
-id-high id h = by-test (idRight id) (λ t. true-not-false (both-second (leb 1 id) (leb id 247) t) (lt-leb id 247 h)) (λ f. f)
-
-pub id-fits : (id : ℕ) → 1 ≤ id → id ≤ 247 → idRight id ≡ true
-id-fits id low high = both (le-leb 1 id low) (le-leb id 247 high)
+use Rattle.events.specs.Events.{isId}
 
 -- the places after the first i ids, which are right and differ
 pub record Seen (ids taken : List ℕ) (i : ℕ) : Type 0 where
   pub walked : i ≤ length ids
   pub size : length taken ≡ 256
-  pub right : (j : ℕ) → j < i → idRight (getD ids j 0) ≡ true
+  pub right : (j : ℕ) → j < i → isId (getD ids j 0) ≡ true
   pub each : (j : ℕ) → j < i → 0 < getD taken (getD ids j 0) 0
   pub only : (v : ℕ) → 0 < getD taken v 0 → (j : ℕ) × (j < i) × (getD ids j 0 ≡ v)
   pub apart : (j k : ℕ) → j < k → k < i → getD ids j 0 ≡ getD ids k 0 → ⊥
@@ -49,7 +38,7 @@ no-ids ids =
     }
 
 module _ (ids taken : List ℕ) (i : ℕ) (kept : Seen ids taken i) where
-  pub next-id : i < length ids → idRight (getD ids i 0) ≡ true → getD taken (getD ids i 0) 0 ≤ 0 → getD ids i 0 < 256 → Seen ids (set taken (getD ids i 0) 1) (i + 1)
+  pub next-id : i < length ids → isId (getD ids i 0) ≡ true → getD taken (getD ids i 0) 0 ≤ 0 → getD ids i 0 < 256 → Seen ids (set taken (getD ids i 0) 1) (i + 1)
   next-id inside passes free low =
       record {
         walked = omega arith;
@@ -72,9 +61,9 @@ module _ (ids taken : List ℕ) (i : ℕ) (kept : Seen ids taken i) where
       is-taken : (v : ℕ) → v ≡ at → 0 < getD (set taken at 1) v 0
       is-taken v same = subst (λ (n : ℕ). 0 < getD (set taken at 1) n 0) (sym same) (omega (arith, getD-set-same taken at 1 0 within))
 
-      right-on : (j : ℕ) → j < i + 1 → idRight (getD ids j 0) ≡ true
+      right-on : (j : ℕ) → j < i + 1 → isId (getD ids j 0) ≡ true
       right-on j h =
-          ⊎-elim (λ same. ap idRight (here j same) ∙ passes) (λ before. let lt : j < i = omega arith in kept .right j lt) (same-or-not j i)
+          ⊎-elim (λ same. ap isId (here j same) ∙ passes) (λ before. let lt : j < i = omega arith in kept .right j lt) (same-or-not j i)
 
       each-on : (j : ℕ) → j < i + 1 → 0 < getD (set taken at 1) (getD ids j 0) 0
       each-on j h =
@@ -100,15 +89,15 @@ module _ (ids taken : List ℕ) (i : ℕ) (kept : Seen ids taken i) where
           (same-or-not k i)
 
   -- all are passed
-  pub ids-end : length ids ≤ i → true ≡ (all idRight ids && different ids)
+  pub ids-end : length ids ≤ i → true ≡ (all isId ids && different ids)
   ids-end end =
-      sym (both (all-from idRight ids (λ j h. let lt : j < i = omega arith in kept .right j lt)) (different-from ids (λ j k lt h. let before : k < i = omega arith in kept .apart j k lt before)))
+      sym (both (all-from isId ids (λ j h. let lt : j < i = omega arith in kept .right j lt)) (different-from ids (λ j k lt h. let before : k < i = omega arith in kept .apart j k lt before)))
 
-  pub id-twice : i < length ids → 0 < getD taken (getD ids i 0) 0 → false ≡ (all idRight ids && different ids)
+  pub id-twice : i < length ids → 0 < getD taken (getD ids i 0) 0 → false ≡ (all isId ids && different ids)
   id-twice inside some =
       let there = kept .only (getD ids i 0) some in
-      by-test (all idRight ids && different ids) (λ t. absurd (different-at ids (both-second (all idRight ids) (different ids) t) (there .0) i (there .1) inside (there .2))) sym
+      by-test (all isId ids && different ids) (λ t. absurd (different-at ids (both-second (all isId ids) (different ids) t) (there .0) i (there .1) inside (there .2))) sym
 
-pub id-wrong : (ids : List ℕ) (i : ℕ) → i < length ids → idRight (getD ids i 0) ≡ false → false ≡ (all idRight ids && different ids)
+pub id-wrong : (ids : List ℕ) (i : ℕ) → i < length ids → isId (getD ids i 0) ≡ false → false ≡ (all isId ids && different ids)
 id-wrong ids i inside fails =
-    by-test (all idRight ids && different ids) (λ t. true-not-false (all-at idRight ids (both-first (all idRight ids) (different ids) t) i inside) fails) sym
+    by-test (all isId ids && different ids) (λ t. true-not-false (all-at isId ids (both-first (all isId ids) (different ids) t) i inside) fails) sym

@@ -1,15 +1,9 @@
--- Laws of the queues.
+-- Laws of the queues: what valid ones have, the slots of one device among all, the events in them, and valid queues of which one
+-- device's slots are replaced.
 pub mod Below
 pub mod Ids
 pub mod SlotsOf
 pub mod SlotsRight
-pub mod Meaning
-pub mod PutSlot
-pub mod AddCases
 pub mod Events
-pub mod NewEvent
-pub mod OldestLaws
-pub mod WireLength
-pub mod Dropping
-pub mod MovedUp
-pub mod DropCases
+pub mod Meaning
+pub mod Replaced

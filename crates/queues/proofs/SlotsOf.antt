@@ -8,8 +8,7 @@ use native.Mathlib.Omega.{arith}
 use lib.ListN.{length, take, drop, length-append, length-drop}
 use lib.Seq.{length-take-le, take-at, drop-at, drop-drop, take-add, take-take}
 use Rattle.lists.proofs.Cases.{le-or-lt}
-use Rattle.queues.specs.Queues.{slotsLength, slotsOf}
-use Rattle.queues.specs.Event.{withSlots}
+use Rattle.queues.specs.Queues.{slotsLength, slotsOf, withSlots}
 
 -- a part from the first to behind the last slot of a device
 pub part-is : (slots : List ℕ) (device : ℕ) → take (104 * device + 104 - 104 * device) (drop (104 * device) slots) ≡ slotsOf slots device
@@ -21,7 +20,7 @@ pub slots-length : (slots : List ℕ) (device : ℕ) → 104 * device + 104 ≤ 
 slots-length slots device h = length-take-le 104 (drop (104 * device) slots) (omega (arith, length-drop (104 * device) slots))
 
 -- a part by its end
-part-of : (l : List ℕ) (m n : ℕ) → m + n ≤ length l → drop m (take (m + n) l) ≡ take n (drop m l)
+pub part-of : (l : List ℕ) (m n : ℕ) → m + n ≤ length l → drop m (take (m + n) l) ≡ take n (drop m l)
 part-of l m n h = ap (drop m) (take-add m n l) ∙ drop-at (take m l) (take n (drop m l)) m (length-take-le m l (omega arith))
 
 module _ (slots new : List ℕ) (device : ℕ) (inside : 104 * device + 104 ≤ length slots) (long : length new ≡ slotsLength) where

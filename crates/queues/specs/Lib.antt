@@ -1,4 +1,2 @@
--- The event queues of the devices, when they are valid, a new event, and what a poll asks of a queue.
+-- The event queues of the devices, and when they are valid.
 pub mod Queues
-pub mod Event
-pub mod Oldest

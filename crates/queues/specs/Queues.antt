@@ -3,14 +3,16 @@
 -- Assumes nothing.
 use Prim.Native.Nat.{ℕ, zero, suc, _+_, _*_}
 use mathlib.Core.Bool.{Bool, true, _&&_}
-use mathlib.Core.List.{List, [], _∷_}
+use mathlib.Core.List.{List, [], _∷_, _++_}
 use lib.Dec.{leb, ltb, eqb}
 use lib.ListN.{length, getD, take, drop}
-use Rattle.lists.specs.Tests.{all, different}
+use Rattle.lists.specs.Choice.{pick}
+use Rattle.lists.specs.Tests.{all, different, position}
+use Rattle.events.specs.Events.{isId, Event, eventBytes}
 use Rattle.table.specs.Table.{Table, devices, valid}
 
--- of each device the flag of its next packet, how many events its last packet had (0 where none was sent), how many events are
--- queued, and the slots that hold them
+-- of each device the flag of its next packet, how many events its last packet had (0 where none waits for its confirmation), how
+-- many events are queued, and the slots that hold them
 pub record Queues : Type 0 where
   pub flags : List ℕ
   pub lasts : List ℕ
@@ -21,6 +23,22 @@ pub record Queues : Type 0 where
 abbrev pub queueColumns : List ℕ → List ℕ → List ℕ → List ℕ → Queues
 queueColumns flags lasts counts slots = record { flags = flags; lasts = lasts; counts = counts; slots = slots }
 
+-- of the device at a place: its flag, how many events its last packet had, and how many it has queued
+abbrev pub flagOf : Queues → ℕ → ℕ
+flagOf q device = getD (q .flags) device 0
+
+abbrev pub lastOf : Queues → ℕ → ℕ
+lastOf q device = getD (q .lasts) device 0
+
+abbrev pub countOf : Queues → ℕ → ℕ
+countOf q device = getD (q .counts) device 0
+
+-- the place of the device with an id; as many as there are devices where there is none
+abbrev pub deviceOf : Table → ℕ → ℕ
+deviceOf t id = position id (t .addresses)
+
+-- ---- slots
+
 -- a queue has no more events than this, an event no more data bytes than this
 abbrev pub mostQueued : ℕ
 mostQueued = 8
@@ -28,8 +46,8 @@ mostQueued = 8
 abbrev pub mostData : ℕ
 mostData = 8
 
--- a slot has 13 bytes: 1 where the event is urgent and 0 where not, then the event as it goes on the wire: the number of its
--- data bytes, its type, its identifier, high byte first, and its data, which 8 bytes have room for
+-- a slot has 13 bytes: 1 where the event is urgent and 0 where not, then the event as it goes on the wire, with room for 8 data
+-- bytes
 abbrev pub slotLength : ℕ
 slotLength = 13
 
@@ -41,22 +59,28 @@ slotsLength = 104
 abbrev pub slotsOf : List ℕ → ℕ → List ℕ
 slotsOf slots device = take slotsLength (drop (slotsLength * device) slots)
 
--- ---- events
+-- all slots with those of one device replaced
+abbrev pub withSlots : List ℕ → ℕ → List ℕ → List ℕ
+withSlots slots device new =
+    take (slotsLength * device) slots ++ (new ++ drop slotsLength (drop (slotsLength * device) slots))
 
+-- ---- queued events
+
+-- an event, and whether it is urgent
 pub record Queued : Type 0 where
   pub urgent : Bool
-  pub kind : ℕ
-  pub identifier : ℕ
-  pub payload : List ℕ
+  pub event : Event
 
--- the event in a slot
+-- as its slot begins
+abbrev pub slotBytes : Queued → List ℕ
+slotBytes e = pick (e .urgent) 1 0 ∷ eventBytes (e .event)
+
+-- the one in a slot
 abbrev pub queuedIn : List ℕ → Queued
 queuedIn slot =
     record {
       urgent = eqb (getD slot 0 0) 1;
-      kind = getD slot 2 0;
-      identifier = getD slot 3 0 * 256 + getD slot 4 0;
-      payload = take (getD slot 1 0) (drop 5 slot);
+      event = record { kind = getD slot 2 0; identifier = getD slot 3 0 * 256 + getD slot 4 0; payload = take (getD slot 1 0) (drop 5 slot) };
     }
 
 -- so many events, from the first slot on
@@ -64,19 +88,11 @@ unfoldable pub queuedFrom : ℕ → List ℕ → List Queued
 queuedFrom zero slots = []
 queuedFrom (suc n) slots = queuedIn (take slotLength slots) ∷ queuedFrom n (drop slotLength slots)
 
--- how many events a device has queued
-abbrev pub countOf : Queues → ℕ → ℕ
-countOf q device = getD (q .counts) device 0
-
 -- the queue of a device, its oldest event first
 abbrev pub queue : Queues → ℕ → List Queued
 queue q device = queuedFrom (countOf q device) (slotsOf (q .slots) device)
 
 -- ---- validity
-
--- an id is an address from 1 to 247
-abbrev pub idRight : ℕ → Bool
-idRight id = leb 1 id && leb id 247
 
 abbrev pub flagRight : ℕ → Bool
 flagRight flag = ltb flag 2
@@ -104,7 +120,7 @@ deviceRight lasts counts slots device = queueRight (getD lasts device 0) (getD c
 unfoldable pub validQueues : Table → Queues → Bool
 validQueues t q =
     valid t
-    && (all idRight (t .addresses)
+    && (all isId (t .addresses)
     && (different (t .addresses)
     && (eqb (length (q .flags)) (devices t)
     && (eqb (length (q .lasts)) (devices t)

@@ -4,30 +4,26 @@ ghost use mathlib.Core.Bool.{_&&_};
 ghost use Prim.Native.Nat.{_*_};
 ghost use lib.ListN.{length};
 ghost use Rattle.lists.specs.Tests.{all, different};
-ghost use Rattle.queues.specs.Queues.{idRight, flagRight, queueRight, eachBelow, deviceRight, slotsLength};
+ghost use Rattle.events.specs.Events.{isId};
+ghost use Rattle.queues.specs.Queues.{queueRight, eachBelow, deviceRight, slotsLength};
 use crate::MOST_DATA;
 use crate::MOST_QUEUED;
 use crate::SLOT_LENGTH;
 use crate::SLOTS_LENGTH;
+use events::is_id;
 
 // Ids are told apart by a place for each byte.
 const BYTES: usize = 256;
 
-// The largest id.
-const LAST_ID: u8 = 247;
-
-// Whether each id is from 1 to 247 and none stands twice.
+// Whether each is the id of a device and none stands twice.
 pub(crate) fn ids_right(ids: &[u8]) -> bool
-    ensures { λ r. ⌜ r ≡ (all idRight (now (ids .entry)) && different (now (ids .entry))) ⌝ }
+    ensures { λ r. ⌜ r ≡ (all isId (now (ids .entry)) && different (now (ids .entry))) ⌝ }
 {
     let mut taken = [0u8; BYTES];
     let mut i = 0;
     while i < ids.len() {
         let id = ids[i];
-        if id < 1 {
-            return false;
-        }
-        if id > LAST_ID {
+        if !is_id(id) {
             return false;
         }
         let at = id as usize;
@@ -38,21 +34,6 @@ pub(crate) fn ids_right(ids: &[u8]) -> bool
         i += 1;
     }
     true
-}
-
-// Whether each flag is 0 or 1.
-pub(crate) fn flags_right(flags: &[u8]) -> bool
-    ensures { λ r. ⌜ r ≡ all flagRight (now (flags .entry)) ⌝ }
-{
-    let mut right = true;
-    let mut i = 0;
-    while i < flags.len() {
-        if flags[i] > 1 {
-            right = false;
-        }
-        i += 1;
-    }
-    right
 }
 
 // Whether a device's queue is right. Only the slots of queued events are looked at.

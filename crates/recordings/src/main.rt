@@ -7,6 +7,7 @@ mod exchanges;
 mod frames;
 mod hearing;
 mod lines;
+mod polling;
 mod scans;
 mod tally;
 
@@ -17,6 +18,7 @@ fn main() {
     say_made();
     say_heard();
     say_scans();
+    say_polls();
 }
 
 fn say_checks() {
@@ -60,4 +62,12 @@ fn say_scans() {
     scans::sizes().say(b"scans, 0 to 248 devices");
     scans::caps().say(b"scans, caps");
     scans::serials().say(b"scans, serials");
+}
+
+fn say_polls() {
+    polling::requests().say(b"event requests");
+    polling::packets().say(b"event packets");
+    polling::events().say(b"events queued");
+    polling::polls().say(b"polls");
+    polling::waiting().say(b"polls, urgent before normal");
 }

@@ -6,6 +6,7 @@ pub mod RuleBook
 pub mod Recording
 pub mod WrittenRead
 pub mod DataShown
+pub mod EventFrames
 pub mod Demand2
 pub mod LongerRun
 pub mod WireLength

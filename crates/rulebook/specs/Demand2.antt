@@ -1,4 +1,4 @@
--- Demand 2, as one claim: of eBUS and of the frames of Fast Modbus, what is read is exactly what may be written, and what was
+-- Demand 2, as one claim: of eBUS and of the frames of Fast Modbus, scans and events, what is read is exactly what may be written, and what was
 -- written is read back. Each line says in our words what it states. The proof is in proofs/Demand2.antt; nothing here needs it to
 -- be read.
 -- Assumes nothing.
@@ -38,6 +38,13 @@ use Rattle.answers.specs.Writing.{writeFound, writeEnd}
 use Rattle.requests.specs.declared.Request.{Request}
 use Rattle.requests.specs.declared.RequestRead.the-variants.{Asked}
 use Rattle.answers.specs.declared.AnswerRead.the-variants.{Found, End}
+use Rattle.eventrequests.specs.Layout.{eventRequestFrame}
+use Rattle.eventrequests.specs.Writing.{writeEventRequest}
+use Rattle.eventrequests.specs.RoundTrip.{EventRequests}
+use Rattle.eventrequests.specs.declared.EventRequest.{EventRequest}
+use Rattle.packets.specs.Layout.{noEventsFrame}
+use Rattle.packets.specs.Writing.{writeNoEvents}
+use Rattle.packets.specs.RoundTrip.{EventPackets}
 use Rattle.rulebook.specs.Rules.{CommandForm, ReplyForm, Right, OnWire, Idle}
 use Rattle.rulebook.specs.ReadBack.{commandBytes, replyBytes, Before, rawBefore, attemptsOf, firstTried, secondTried}
 
@@ -170,6 +177,21 @@ pub record FrameDemand : Type 0 where
       → (serial < serialLimit) × (input ≡ replicate (skipped input) fill ++ foundFrame serial address)
   pub end-exact : (input : List ℕ) → readAnswer input ≡ End → input ≡ replicate (skipped input) fill ++ endFrame
 
+-- ---- the frames of event polling
+
+pub record EventDemand : Type 0 where
+  -- a request, and that nobody has events, are written where they fit, and nothing else is; packets are written by polls, which
+  -- eventsequence/Sequence speaks of
+  pub request-written : (request : EventRequest) (room : ℕ) → length (eventRequestFrame request) ≤ room → writeEventRequest request room ≡ bytes (eventRequestFrame request)
+  pub nothing-written : (room : ℕ) → length noEventsFrame ≤ room → writeNoEvents room ≡ bytes noEventsFrame
+  pub request-only : (request : EventRequest) (room : ℕ) (raw : List ℕ) → writeEventRequest request room ≡ bytes raw → (raw ≡ eventRequestFrame request) × (length raw ≤ room)
+  pub nothing-only : (room : ℕ) (raw : List ℕ) → writeNoEvents room ≡ bytes raw → (raw ≡ noEventsFrame) × (length raw ≤ room)
+  -- read back as what went in, and nothing else accepted: requests (eventrequests/RoundTrip), and packets with their events and that
+  -- nobody has any, behind any number of FF (packets/RoundTrip)
+  pub requests : EventRequests
+  pub packets : EventPackets
+
 pub record Demand2 : Type 0 where
   pub bus : BusDemand
   pub frames : FrameDemand
+  pub events : EventDemand

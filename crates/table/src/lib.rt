@@ -73,14 +73,14 @@ fn serials_differ(serials: &[u32]) -> bool
     true
 }
 
-// Whether each mark is 0 or 1.
-fn marks_right(marks: &[u8]) -> bool
-    ensures { λ r. ⌜ r ≡ all markRight (now (marks .entry)) ⌝ }
+// Whether each number of a column is 0 or 1, as marks are and flags.
+pub fn zeros_and_ones(column: &[u8]) -> bool
+    ensures { λ r. ⌜ r ≡ all markRight (now (column .entry)) ⌝ }
 {
     let mut right = true;
     let mut i = 0;
-    while i < marks.len() {
-        if marks[i] > 1 {
+    while i < column.len() {
+        if column[i] > 1 {
             right = false;
         }
         i += 1;
@@ -107,5 +107,5 @@ pub fn valid(serials: &[u32], addresses: &[u8], marks: &[u8]) -> bool
     if !serials_differ(serials) {
         return false;
     }
-    marks_right(marks)
+    zeros_and_ones(marks)
 }

@@ -6,6 +6,7 @@ use crate::checks::{C, C_WIDE, EBUS, MODBUS};
 use crate::contest::CONTEST;
 use crate::feed::FEED_64;
 use crate::judge::JUDGE;
+use crate::poll::POLL;
 use crate::report::{Measured, Ratio};
 use crate::scan::{MOST, SCAN};
 use crate::table::{START, VALID};
@@ -26,7 +27,8 @@ impl Bar {
 /// All bars on what was measured.
 pub fn all(measured: &[Measured], ratios: &[Ratio]) -> Vec<Bar> {
     let mut bars: Vec<Bar> = ratios.iter().filter_map(on_ratio).collect();
-    bars.extend(linear(measured));
+    bars.extend(linear(measured, CONTEST, "key", 64));
+    bars.extend(linear(measured, POLL, "device", 31));
     bars.extend(steps(measured).iter().map(Step::bar));
     bars
 }
@@ -50,7 +52,7 @@ fn on_ratio(ratio: &Ratio) -> Option<Bar> {
         (JUDGE, SECOND, _) => 1.0,
         // Listening takes at most one and a half times as long as judging.
         (FEED_64, JUDGE, _) => 0.66,
-        (SCAN, SECOND, MOST) => 1.0,
+        (SCAN | POLL, SECOND, MOST) => 1.0,
         (SCAN, "bus", MOST) => 200.0,
         _ => return None,
     };
@@ -61,16 +63,16 @@ fn on_ratio(ratio: &Ratio) -> Option<Bar> {
     })
 }
 
-/// The contest grows linearly: one key of 247 takes little longer than one of
-/// 64. Growth by n log n would reach 0.75 and by n squared 0.26; what 0.8 leaves
-/// is for branches that a processor foretells in short lists and not in long.
-fn linear(measured: &[Measured]) -> Option<Bar> {
-    const FEW: usize = 64;
-    let per_key = |size| Some(time(measured, CONTEST, size)? / size as f64);
+/// What grows linearly: one key or device of 247 takes little longer than one of
+/// few. From 64 to 247 growth by n log n would reach 0.75 and by n squared 0.26;
+/// what 0.8 leaves is for branches that a processor foretells in short lists and
+/// not in long.
+fn linear(measured: &[Measured], case: &str, each: &str, few: usize) -> Option<Bar> {
+    let per_one = |size| Some(time(measured, case, size)? / size as f64);
     Some(Bar {
-        on: format!("{CONTEST} {MOST} per-key-of-{FEW}"),
+        on: format!("{case} {MOST} per-{each}-of-{few}"),
         least: 0.8,
-        value: per_key(FEW)? / per_key(MOST)?,
+        value: per_one(few)? / per_one(MOST)?,
     })
 }
 

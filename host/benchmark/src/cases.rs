@@ -1,7 +1,7 @@
 //! All cases, and how one is made from its name and size.
 
 use crate::case::Case;
-use crate::{checks, contest, exchanges, feed, idle, judge, scan, table};
+use crate::{checks, contest, exchanges, feed, idle, judge, poll, scan, table};
 
 /// Numbers of keys and of devices.
 const NUMBERS: [usize; 4] = [1, 16, 64, scan::MOST];
@@ -10,7 +10,7 @@ const NUMBERS: [usize; 4] = [1, 16, 64, scan::MOST];
 const EXCHANGES: [usize; 2] = [exchanges::LONG, exchanges::SHORT];
 
 /// Every case with its sizes, in the order in which they are measured.
-pub const ALL: [(&str, &[usize]); 10] = [
+pub const ALL: [(&str, &[usize]); 11] = [
     (checks::MODBUS, &[8, 64, 256, 4096]),
     (checks::EBUS, &[8, 20, 64, 256]),
     (judge::JUDGE, &EXCHANGES),
@@ -21,6 +21,7 @@ pub const ALL: [(&str, &[usize]); 10] = [
     (table::VALID, &NUMBERS),
     (table::START, &NUMBERS),
     (scan::SCAN, &NUMBERS),
+    (poll::POLL, &[31, 124, scan::MOST]),
 ];
 
 /// Makes the inputs and compares the candidates' answers on them; an error is
@@ -37,6 +38,7 @@ pub fn make(name: &str, size: usize) -> Result<Case, String> {
         table::VALID => table::valid(size),
         table::START => table::start(size),
         scan::SCAN => scan::scan(size),
+        poll::POLL => poll::poll(size),
         _ => Err(format!("there is no case {name}")),
     }
 }

@@ -17,6 +17,7 @@ mod judge;
 mod machine;
 mod measure;
 mod peers;
+mod poll;
 mod random;
 mod report;
 mod scan;

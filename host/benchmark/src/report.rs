@@ -5,6 +5,7 @@ use crate::case::OURS;
 use crate::contest::CONTEST;
 use crate::idle::{IDLE, SYNS};
 use crate::measure::{Timing, ROUNDS};
+use crate::poll::POLL;
 use crate::scan;
 
 /// One case at one size, with the archive first.
@@ -117,12 +118,14 @@ pub fn print_ratios(ratios: &[Ratio]) {
     }
 }
 
-/// How a contest grows with the keys, and judging with idle time.
+/// How a contest grows with the keys, judging with idle time, and a poll with
+/// the devices.
 pub fn print_growth(all: &[Measured]) {
     for one in all {
         let (each, number) = match one.case {
             CONTEST => ("key", one.size as f64),
             IDLE => ("syn", SYNS as f64),
+            POLL => ("device", one.size as f64),
             _ => continue,
         };
         for (at, timing) in one.timings.iter().enumerate() {

@@ -8,13 +8,13 @@ use crate::refusal::{
 };
 
 /// All frames begin with these two bytes.
-const HEAD: [u8; 2] = [0xFD, 0x46];
+pub(crate) const HEAD: [u8; 2] = [0xFD, 0x46];
 const START: u8 = 0x01;
 const CONTINUE: u8 = 0x02;
 const FOUND: u8 = 0x03;
 const END: u8 = 0x04;
 /// The bytes of every frame but 03.
-const SHORT: usize = 5;
+pub(crate) const SHORT: usize = 5;
 /// The bytes of frame 03.
 const LONG: usize = 10;
 /// The byte that a dominant window puts on the bus.
@@ -103,7 +103,7 @@ pub fn write_end(out: &mut [u8]) -> Result<usize, Refusal> {
 
 /// The subcommand of a frame that stands at a place of the whole input. Order:
 /// "fewer than 5 bytes left (13), 14".
-fn read_head(frame: &[u8], place: usize) -> Result<u8, Refusal> {
+pub(crate) fn read_head(frame: &[u8], place: usize) -> Result<u8, Refusal> {
     if frame.len() < SHORT {
         return Err(Refusal::whole(FRAME_LENGTH));
     }
@@ -117,7 +117,7 @@ fn read_head(frame: &[u8], place: usize) -> Result<u8, Refusal> {
 }
 
 /// The length and the check of a frame whose subcommand is known.
-fn read_rest(frame: &[u8], place: usize, length: usize) -> Result<(), Refusal> {
+pub(crate) fn read_rest(frame: &[u8], place: usize, length: usize) -> Result<(), Refusal> {
     if frame.len() != length {
         return Err(Refusal::whole(FRAME_LENGTH));
     }
@@ -129,7 +129,7 @@ fn read_rest(frame: &[u8], place: usize, length: usize) -> Result<(), Refusal> {
 }
 
 /// Puts the check into a frame's last two bytes and the frame into the output.
-fn write_frame<const LENGTH: usize>(
+pub(crate) fn write_frame<const LENGTH: usize>(
     mut frame: [u8; LENGTH],
     out: &mut [u8],
 ) -> Result<usize, Refusal> {

@@ -10,9 +10,11 @@
 pub mod checks;
 pub mod devices;
 pub mod ebus;
+pub mod events;
 pub mod exchange;
 pub mod frames;
 pub mod listener;
+pub mod queues;
 pub mod refusal;
 
 pub use listener::Listener;

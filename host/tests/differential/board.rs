@@ -22,6 +22,13 @@ pub struct Board {
     second_marks: Lent<u8>,
 }
 
+/// The columns of a table as the archive is lent them.
+pub struct LentTable<'a> {
+    pub serials: &'a Lent<u32>,
+    pub addresses: &'a Lent<u8>,
+    pub marks: &'a Lent<u8>,
+}
+
 /// A request as it reaches the devices.
 pub enum Asked<'a> {
     Start,
@@ -68,15 +75,29 @@ impl Board {
         self.archive_marks.part()
     }
 
+    /// The marks that the second implementation's calls left.
+    pub fn second_marks(&self) -> &[u8] {
+        self.second_marks.part()
+    }
+
+    /// The columns for calls of the archive that only read them.
+    pub fn lent(&self) -> LentTable<'_> {
+        LentTable {
+            serials: &self.serials,
+            addresses: &self.addresses,
+            marks: &self.archive_marks,
+        }
+    }
+
     /// Compares the columns.
-    fn compare(&self) -> Result<(), String> {
+    pub fn compare(&self) -> Result<(), String> {
         same("marks", &self.archive_marks, &self.second_marks)
             .and_then(|()| same("serials", &self.serials, &self.kept_serials))
             .and_then(|()| same("addresses", &self.addresses, &self.kept_addresses))
     }
 
     /// The columns in hex, with the marks as they stood before the call.
-    fn text(&self, marks: &[u8]) -> String {
+    pub fn text(&self, marks: &[u8]) -> String {
         let Table {
             serials, addresses, ..
         } = &self.table;

@@ -1,13 +1,14 @@
 //! Each call of the C interface made on both sides: on the archive with lent
 //! buffers, and on the second implementation. Answers, outputs with their
 //! margins and inputs are compared. The calls on devices are in `board`, those
-//! on a state of listening in `hearing`.
+//! on their event queues in `polls`, those on a state of listening in `hearing`.
 
 use std::fmt::Debug;
 
 use moortinker::sys;
+use second::events::{EventRequest, Events};
 use second::refusal::Refusal;
-use second::{checks, ebus, exchange, frames};
+use second::{checks, ebus, events, exchange, frames};
 
 use crate::lent::{hex, Lent};
 use crate::session::{same, Function, Session};
@@ -192,6 +193,147 @@ pub fn read_answer(session: &mut Session, input: &[u8]) {
     if number == 0 {
         session.note(Function::ReadAnswer, [answer, 0, 0]);
     }
+}
+
+pub fn read_event_request(session: &mut Session, input: &[u8]) {
+    let mut second = sys::EventRequestRead {
+        number: 0,
+        minimum: 0,
+        most: 0,
+        confirmed: 0,
+        flag: 0,
+        place: 0,
+    };
+    match events::read_event_request(input) {
+        Ok(request) => {
+            (second.minimum, second.most) = (request.minimum, request.most);
+            (second.confirmed, second.flag) = (request.confirmed, request.flag);
+        }
+        Err(Refusal { number, place }) => (second.number, second.place) = (number, place),
+    }
+    let number = second.number;
+    // SAFETY: the pointer comes with its length.
+    let archive = |at, length| unsafe { sys::moor_read_event_request(at, length) };
+    read(
+        session,
+        Function::ReadEventRequest,
+        input,
+        archive,
+        number,
+        second,
+        String::new,
+    );
+}
+
+pub fn read_events(session: &mut Session, input: &[u8]) {
+    let mut second = sys::EventsRead {
+        number: 0,
+        answer: 0,
+        sender: 0,
+        flag: 0,
+        queued: 0,
+        size: 0,
+        place: 0,
+        listed: 0,
+        first: 0,
+    };
+    match events::read_events(input) {
+        Ok(Events::Packet {
+            sender,
+            flag,
+            queued,
+            listed,
+            first,
+            size,
+        }) => {
+            (second.answer, second.sender, second.flag) = (17, sender, flag);
+            (second.queued, second.size) = (queued, size);
+            (second.listed, second.first) = (listed, first);
+        }
+        Ok(Events::None) => second.answer = 18,
+        Err(Refusal { number, place }) => (second.number, second.place) = (number, place),
+    }
+    let sys::EventsRead {
+        number,
+        answer,
+        listed,
+        ..
+    } = second;
+    // SAFETY: the pointer comes with its length.
+    let archive = |at, length| unsafe { sys::moor_read_events(at, length) };
+    read(
+        session,
+        Function::ReadEvents,
+        input,
+        archive,
+        number,
+        second,
+        String::new,
+    );
+    if number == 0 {
+        session.note(Function::ReadEvents, [answer, listed.min(2) as u8, 0]);
+    }
+}
+
+pub fn event_at(session: &mut Session, input: &[u8], at: usize) {
+    let mut second = sys::Event {
+        whole: 0,
+        kind: 0,
+        size: 0,
+        identifier: 0,
+        start: 0,
+        next: 0,
+    };
+    if let Some(event) = events::event_at(input, at) {
+        (second.whole, second.kind, second.size) = (1, event.kind, event.size);
+        (second.identifier, second.start) = (event.identifier, event.start);
+        second.next = event.next;
+    }
+    let whole = second.whole;
+    // SAFETY: the pointer comes with its length.
+    let archive = |input, length| unsafe { sys::moor_event_at(input, length, at) };
+    let text = || format!("at {at} of");
+    read(session, Function::EventAt, input, archive, 0, second, text);
+    session.note(Function::EventAt, [whole, 0, 0]);
+}
+
+pub fn write_event_request(session: &mut Session, request: EventRequest, room: usize) {
+    let second = |out: &mut [u8]| events::write_event_request(request, out);
+    let EventRequest {
+        minimum,
+        most,
+        confirmed,
+        flag,
+    } = request;
+    let archive = |_, _, out| {
+        // SAFETY: the pointer comes with its length.
+        unsafe { sys::moor_write_event_request(minimum, most, confirmed, flag, out, room) }
+    };
+    let text = || format!("{request:?}");
+    write(
+        session,
+        Function::WriteEventRequest,
+        &[],
+        room,
+        archive,
+        second,
+        text,
+    );
+}
+
+pub fn write_no_events(session: &mut Session, room: usize) {
+    let second = |out: &mut [u8]| events::write_no_events(out);
+    // SAFETY: the pointer comes with its length.
+    let archive = |_, _, out| unsafe { sys::moor_write_no_events(out, room) };
+    write(
+        session,
+        Function::WriteNoEvents,
+        &[],
+        room,
+        archive,
+        second,
+        String::new,
+    );
 }
 
 pub fn expand(session: &mut Session, logical: &[u8], room: usize) {

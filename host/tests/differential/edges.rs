@@ -4,6 +4,7 @@
 
 use crate::board::{ask, contest, scan, table_valid, Asked, Board};
 use crate::calls;
+use crate::eventedges;
 use crate::hands::hear_with;
 use crate::hearing::{Hearing, MOST_USED};
 use crate::inputs::{expanded, ROOMS};
@@ -35,6 +36,7 @@ pub fn run_all(session: &mut Session) {
     frames(session);
     tables(session);
     scans(session);
+    eventedges::run_all(session);
 }
 
 /// The checks over every pair of bytes, which meets every entry of a table.
@@ -272,7 +274,7 @@ fn checked(logical: &[u8]) -> Vec<u8> {
 
 /// The input itself, every cut of it, every input with one byte left out, and
 /// every input with one byte changed to or preceded by any other.
-fn for_each_neighbour(input: &[u8], mut try_one: impl FnMut(&[u8])) {
+pub fn for_each_neighbour(input: &[u8], mut try_one: impl FnMut(&[u8])) {
     try_one(input);
     for at in 0..input.len() {
         let (before, behind) = input.split_at(at);

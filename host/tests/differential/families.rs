@@ -7,6 +7,7 @@ use crate::cuts::listening;
 use crate::hands::in_hand;
 use crate::idle;
 use crate::inputs;
+use crate::polling;
 use crate::random::Random;
 use crate::session::Session;
 use crate::states::states;
@@ -16,19 +17,22 @@ use crate::tables;
 type Family = (&'static str, u64, fn(&mut Session));
 
 const FAMILIES: &[Family] = &[
-    ("checks", 42, checks),
-    ("escapes", 118, escapes),
-    ("telegrams", 91, telegrams),
-    ("telegram writers", 76, telegram_writers),
-    ("exchanges", 222, exchanges),
-    ("exchanges behind idle time", 80, idle::exchanges),
-    ("listening", 119, listening),
-    ("listening from idle time on", 50, idle::listening),
-    ("bytes in hand", 20, in_hand),
-    ("states of any bytes", 34, states),
-    ("frames", 105, frames),
-    ("tables", 18, devices),
-    ("sequences", 25, sequences),
+    ("checks", 37, checks),
+    ("escapes", 104, escapes),
+    ("telegrams", 81, telegrams),
+    ("telegram writers", 67, telegram_writers),
+    ("exchanges", 197, exchanges),
+    ("exchanges behind idle time", 71, idle::exchanges),
+    ("listening", 105, listening),
+    ("listening from idle time on", 44, idle::listening),
+    ("bytes in hand", 18, in_hand),
+    ("states of any bytes", 30, states),
+    ("frames", 93, frames),
+    ("tables", 16, devices),
+    ("sequences", 22, sequences),
+    ("event frames", 45, polling::frames),
+    ("event queues", 15, polling::single),
+    ("polls", 55, polling::sequences),
 ];
 
 /// Runs every family.
@@ -74,7 +78,7 @@ fn escapes(session: &mut Session) {
 }
 
 /// A position in a run: mostly inside it, at times far behind it.
-fn position(random: &mut Random, length: usize) -> usize {
+pub fn position(random: &mut Random, length: usize) -> usize {
     match random.below(20) {
         0 => length,
         1 => length.saturating_sub(1),
@@ -217,7 +221,7 @@ fn sequences(session: &mut Session) {
 }
 
 /// What a call was for the count of requests.
-enum Call {
+pub enum Call {
     Nothing,
     Start,
     Continue,
@@ -226,7 +230,7 @@ enum Call {
 
 /// One random call on the table. Scans of large tables are seldom, since they
 /// take long.
-fn call(session: &mut Session, board: &mut Board) -> Call {
+pub fn call(session: &mut Session, board: &mut Board) -> Call {
     let random = &mut session.random;
     let room = match random.below(12) {
         0 => random.below(51),

@@ -319,7 +319,7 @@ pub fn answer(random: &mut Random) -> Vec<u8> {
 }
 
 /// FF and then the frame.
-fn filled(random: &mut Random, frame: fn(&mut Random) -> Vec<u8>) -> Vec<u8> {
+pub fn filled(random: &mut Random, frame: fn(&mut Random) -> Vec<u8>) -> Vec<u8> {
     let fill = match random.below(300) {
         0 => 1000 + random.below(4000),
         1..=99 => random.below(3),

@@ -12,7 +12,7 @@ use crate::random::Random;
 const SEED: u64 = 0x000E_B052_0017;
 /// The inputs of a run that asks for no other number. A recording that both
 /// sides listen to is one input, in however many runs it is fed.
-const INPUTS: u64 = 8_850_000;
+const INPUTS: u64 = 10_000_000;
 
 /// Declares the functions of the C interface, each with the numbers that
 /// the rules and the header let it give.
@@ -60,6 +60,15 @@ functions! {
     Resume "moor_resume" [0 1 2]
     Offer "moor_offer" [0 1 2 13 14 15 16]
     Scan "moor_scan" [0 1 2]
+    ReadEventRequest "moor_read_event_request" [0 13 14 15 16]
+    WriteEventRequest "moor_write_event_request" [0 1]
+    ReadEvents "moor_read_events" [0 13 14 15 16]
+    EventAt "moor_event_at" [0]
+    WriteNoEvents "moor_write_no_events" [0 1]
+    QueuesValid "moor_queues_valid" [0]
+    AddEvent "moor_add_event" [0 2 13 18]
+    Poll "moor_poll" [0 1 2]
+    OfferPoll "moor_offer_poll" [0 1 2 13 14 15 16]
 }
 
 /// What an accepted answer looked like, in up to three values.
@@ -75,6 +84,29 @@ const EXCHANGES: &[Form] = &[
     [3, 1, 2],
     [3, 2, 1],
     [3, 2, 2],
+];
+
+/// The forms of what a poll brings about. Silence, a packet or no events; each
+/// with and without a confirmation. Silence and no events with and without a
+/// device that sat out; a packet of all that is queued or of a part, that stands
+/// for one not confirmed or does not.
+const POLLS: &[Form] = &[
+    [0, 0, 0],
+    [0, 0, 1],
+    [0, 1, 0],
+    [0, 1, 1],
+    [17, 0, 0],
+    [17, 0, 1],
+    [17, 0, 2],
+    [17, 0, 3],
+    [17, 1, 0],
+    [17, 1, 1],
+    [17, 1, 2],
+    [17, 1, 3],
+    [18, 0, 0],
+    [18, 0, 1],
+    [18, 1, 0],
+    [18, 1, 1],
 ];
 
 /// The forms of accepted answers that a run must have met.
@@ -108,6 +140,28 @@ const FORMS: &[(Function, &[Form])] = &[
     (Function::Resume, &[[0; 3], [3, 0, 0], [4, 0, 0]]),
     (Function::Offer, &[[0; 3], [3, 0, 0], [4, 0, 0]]),
     (Function::Scan, &[[1, 0, 0], [2, 0, 0], [3, 0, 0]]),
+    // A packet of no event, of one and of more; no events.
+    (
+        Function::ReadEvents,
+        &[[17, 0, 0], [17, 1, 0], [17, 2, 0], [18, 0, 0]],
+    ),
+    (Function::EventAt, &[[0; 3], [1, 0, 0]]),
+    (Function::QueuesValid, &[[0; 3], [1, 0, 0]]),
+    // Normal and urgent ones; each behind nothing, behind some, and the last
+    // that has room.
+    (
+        Function::AddEvent,
+        &[
+            [0; 3],
+            [0, 1, 0],
+            [0, 2, 0],
+            [1, 0, 0],
+            [1, 1, 0],
+            [1, 2, 0],
+        ],
+    ),
+    (Function::Poll, POLLS),
+    (Function::OfferPoll, POLLS),
 ];
 
 /// A run of the tests.
@@ -205,13 +259,13 @@ impl Session {
     /// Prints the counts per function and number.
     pub fn print(&self) {
         let met: BTreeSet<u8> = self.counts.keys().map(|key| key.1).collect();
-        print!("{:20}", "");
+        print!("{:24}", "");
         for number in &met {
             print!("{number:>9}");
         }
         println!();
         for &(function, name, _) in FUNCTIONS {
-            print!("{name:20}");
+            print!("{name:24}");
             for &number in &met {
                 match self.counts.get(&(function, number)) {
                     Some(count) => print!("{count:>9}"),

@@ -93,7 +93,8 @@ pub fn damaged(random: &mut Random) -> Table {
     table
 }
 
-fn damage(random: &mut Random, table: &mut Table) {
+/// Makes one thing of a table wrong.
+pub fn damage(random: &mut Random, table: &mut Table) {
     let serials = table.serials.len();
     match random.below(9) {
         0 => lengthen(random, table),

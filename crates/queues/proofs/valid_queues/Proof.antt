@@ -43,11 +43,11 @@ mul-if6 c =
 returns-6 : tie.Need-returns-6
 returns-6 c = not-valid _ _ (λ g. omega (arith, c .if6 .taken, g .slots-long))
 
-flags-right-requires : tie.Need-flags-right-requires
-flags-right-requires c κs = search needs
+zeros-and-ones-requires : tie.Need-zeros-and-ones-requires
+zeros-and-ones-requires c κs = search needs
 
 returns-7 : tie.Need-returns-7
-returns-7 c = not-valid _ _ (λ g. true-not-false (c .before .flags-right .ensures ∙ g .flags-right) (not-true (c .before .flags-right .result) (c .if7 .taken)))
+returns-7 c = not-valid _ _ (λ g. true-not-false (c .before .zeros-and-ones .ensures ∙ g .flags-right) (not-true (c .before .zeros-and-ones .result) (c .if7 .taken)))
 
 queues-right-requires : tie.Need-queues-right-requires
 queues-right-requires c κs = (omega (arith, c .before .before .before .before .if4 .left, c .before .before .before .if5 .left), omega (arith, c .before .before .before .if5 .left, c .before .before .if6 .left))
@@ -61,7 +61,7 @@ returns-8 c =
     c .queues-right .ensures
     ∙ ap (eachBelow (deviceRight (q .lasts) (q .counts) (q .slots))) counts-long
     ∙ queues-decide t q (sym (c .before .before .before .before .before .before .before .before .before .before .valid .ensures) ∙ not-false (c .before .before .before .before .before .before .before .before .before .before .valid .result) (c .before .before .before .before .before .before .before .before .before .if1 .left)) (sym (c .before .before .before .before .before .before .before .before .ids-right .ensures) ∙ not-false (c .before .before .before .before .before .before .before .before .ids-right .result) (c .before .before .before .before .before .before .before .if2 .left))
-    (omega (arith, c .before .before .before .before .before .before .if3 .left)) (omega (arith, c .before .before .before .before .before .if4 .left)) counts-long (omega (arith, c .before .before .before .if6 .left)) (sym (c .before .before .flags-right .ensures) ∙ not-false (c .before .before .flags-right .result) (c .before .if7 .left))
+    (omega (arith, c .before .before .before .before .before .before .if3 .left)) (omega (arith, c .before .before .before .before .before .if4 .left)) counts-long (omega (arith, c .before .before .before .if6 .left)) (sym (c .before .before .zeros-and-ones .ensures) ∙ not-false (c .before .before .zeros-and-ones .result) (c .before .if7 .left))
 
 pub valid-queues-spec : {M : Type 1} → statement M
 valid-queues-spec =
@@ -76,7 +76,7 @@ valid-queues-spec =
     returns-5
     mul-if6
     returns-6
-    flags-right-requires
+    zeros-and-ones-requires
     returns-7
     queues-right-requires
     returns-8)

@@ -31,13 +31,13 @@ serials-differ-requires c κs = search needs
 returns-5 : tie.Need-returns-5
 returns-5 c = not-valid _ (λ g. true-not-false (c .before .serials-differ .ensures ∙ g .differ) (not-true (c .before .serials-differ .result) (c .if5 .taken)))
 
-marks-right-requires : tie.Need-marks-right-requires
-marks-right-requires c κs = search needs
+zeros-and-ones-requires : tie.Need-zeros-and-ones-requires
+zeros-and-ones-requires c κs = search needs
 
 returns-6 : tie.Need-returns-6
 returns-6 c =
     let a = c .before .before .before .before .before .before .before .before .before .before .before .args in
-    c .marks-right .ensures
+    c .zeros-and-ones .ensures
     ∙ marks-decide (columns (a .serials .now) (a .addresses .now) (a .marks .now)) (omega (arith, c .before .before .before .before .before .before .before .if1 .left)) (omega (arith, c .before .before .before .before .before .before .if2 .left)) (omega (arith, c .before .before .before .before .before .if3 .left))
     (sym (c .before .before .before .before .serials-right .ensures) ∙ not-false (c .before .before .before .before .serials-right .result) (c .before .before .before .if4 .left))
     (sym (c .before .before .serials-differ .ensures) ∙ not-false (c .before .before .serials-differ .result) (c .before .if5 .left))
@@ -53,5 +53,5 @@ valid-spec =
     returns-4
     serials-differ-requires
     returns-5
-    marks-right-requires
+    zeros-and-ones-requires
     returns-6)

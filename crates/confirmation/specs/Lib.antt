@@ -1,0 +1,2 @@
+-- What a poll confirms.
+pub mod Confirmation

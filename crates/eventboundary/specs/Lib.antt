@@ -1,0 +1,2 @@
+-- The answers on event frames, queues and polls as structs for C.
+pub mod ForC

@@ -1,0 +1,4 @@
+-- Laws of events: ids, one event, and events from end to end.
+pub mod Ids
+pub mod EventAt
+pub mod EventList

@@ -1,0 +1,2 @@
+-- A new event for a device.
+pub mod Event
