@@ -1,12 +1,21 @@
-//! Compiles the C table loops with gcc -O3 and links them.
+//! Compiles the C table loops with gcc -O3 and links them, and beside them
+//! libonebyte.a, the Modbus check one byte a step.
 
 use std::env;
-use std::path::PathBuf;
+use std::path::{Path, PathBuf};
 use std::process::Command;
 
 const SOURCE: &str = "../peers/table_loops.c";
+/// Where host/archive writes. Without it the crate `moortinker` is not built, and
+/// says so.
+const ARCHIVES: &str = "../../target/staticlib";
 
 fn main() {
+    table_loops();
+    one_byte();
+}
+
+fn table_loops() {
     println!("cargo:rerun-if-changed={SOURCE}");
     let out = PathBuf::from(env::var_os("OUT_DIR").expect("cargo sets OUT_DIR"));
     let object = out.join("table_loops.o");
@@ -17,6 +26,14 @@ fn main() {
     run(Command::new("ar").arg("rcs").arg(&archive).arg(&object));
     println!("cargo:rustc-link-search=native={}", out.display());
     println!("cargo:rustc-link-lib=static=table_loops");
+}
+
+fn one_byte() {
+    let here = env::var_os("CARGO_MANIFEST_DIR").expect("cargo sets CARGO_MANIFEST_DIR");
+    let folder = Path::new(&here).join(ARCHIVES);
+    println!("cargo:rerun-if-changed={}/libonebyte.a", folder.display());
+    println!("cargo:rustc-link-search=native={}", folder.display());
+    println!("cargo:rustc-link-lib=static=onebyte");
 }
 
 fn run(command: &mut Command) {

@@ -3,4 +3,5 @@ pub mod Xor
 pub mod Register
 pub mod Table
 pub mod Byte
+pub mod Fitting
 pub mod BitByBit

@@ -4,13 +4,13 @@
 use mathlib.Core.Path.{_≡_, refl, sym, ap, ap₂, _∙_, subst}
 use mathlib.Core.List.{List, [], _∷_}
 use Prim.Native.Nat.{ℕ, zero, suc, _+_, _-_, _*_, _/_, _%_, _^_, _≤_, _<_}
-use native.Mathlib.Nat.{mod-lt, mod-eq-of-lt, div-eq-of-lt, div-le-self, div-lt-iff-lt-mul, zero-mul, lt-of-le-of-lt, lt-of-lt-of-le, mul-assoc, mul-comm, mul-one, pow-suc, mul-lt-mul-of-pos-right, mod-one}
+use native.Mathlib.Nat.{mod-lt, mod-eq-of-lt, div-eq-of-lt, div-le-self, div-lt-iff-lt-mul, zero-mul, zero-add, suc-add, lt-of-le-of-lt, lt-of-lt-of-le, mul-assoc, mul-comm, mul-one, pow-suc, mul-lt-mul-of-pos-right, mod-one}
 use native.Mathlib.Numerals.{one-add}
 use native.Mathlib.Omega.{arith}
 use lib.Bits.{bitXor, xor-lt, xor-mod, xor-shr, xor-zero-r, xor-comm, xor-shifted, shifted-half, shifted-even}
 use lib.Dec.{lit<}
 use lib.ListN.{length}
-use lib.Pow.{pow-pos, split, pow-mono, mod-pow-add, shl-lt}
+use lib.Pow.{pow-add, pow-pos, split, pow-mono, mod-pow-add, shl-lt}
 use Rattle.crc.specs.Register.{Direction, left, right, moved, fallen, step, steps, enter, bits}
 use Rattle.crc.proofs.Xor.{bit-cases, xor-assoc, xor-medial, xor-double, xor-times}
 
@@ -68,6 +68,12 @@ module _ (d : Direction) (w p : ℕ) where
     steps-xor (suc n) a b ha hb =
         ap (steps d w p n) (step-xor a b ha hb) ∙ steps-xor n (step d w p a) (step d w p b) (step-lt a ha) (step-lt b hb)
 
+-- n steps and then m more
+pub steps-more : (d : Direction) (w p n m r : ℕ) → steps d w p (n + m) r ≡ steps d w p m (steps d w p n r)
+unfolding steps
+steps-more d w p zero m r = ap (λ (k : ℕ). steps d w p k r) (zero-add m)
+steps-more d w p (suc n) m r = ap (λ (k : ℕ). steps d w p k r) (suc-add n m) ∙ steps-more d w p n m (step d w p r)
+
 -- ---- n steps of what does not fall out
 
 -- to the left: a number of k bits, over n places
@@ -89,6 +95,14 @@ right-quiet w p zero h = mul-one h
 right-quiet w p (suc n) h =
     ap (steps right w p n) (step-quiet right w p (h * 2 ^ suc n) (shifted-even h n) ∙ shifted-half h n) ∙ right-quiet w p n h
 
+-- .. so what is added n places up is added behind n steps
+pub right-later : (w p n m r b : ℕ) → p < 2 ^ w → r < 2 ^ w → b * 2 ^ n < 2 ^ w
+    → steps right w p (n + m) (bitXor r (b * 2 ^ n)) ≡ steps right w p m (bitXor (steps right w p n r) b)
+right-later w p n m r b hp hr hb =
+    steps-more right w p n m (bitXor r (b * 2 ^ n))
+    ∙ ap (steps right w p m)
+    (steps-xor right w p hp n r (b * 2 ^ n) hr hb ∙ ap (bitXor (steps right w p n r)) (right-quiet w p n b))
+
 -- ---- the split of a register over n places: what falls out, and what only moves
 
 -- the end of the register that falls out within n places, as a number by itself, and where it stands in the register
@@ -109,6 +123,15 @@ abbrev pub carried : Direction → ℕ → ℕ → ℕ → ℕ
 carried left w n r = r % 2 ^ (w - n) * 2 ^ n
 carried right w n r = r / 2 ^ n
 
+outgoing-lt : (d : Direction) (w n r : ℕ) → n ≤ w → r < 2 ^ w → outgoing d w n r < 2 ^ n
+outgoing-lt left w n r hn hr = div-lt-iff-lt-mul (pow-pos (w - n)) .1 (subst (λ (x : ℕ). r < x) (ap (λ (k : ℕ). 2 ^ k) (omega arith) ∙ pow-add 2 n (w - n)) hr)
+outgoing-lt right w n r hn hr = mod-lt r (pow-pos n)
+
+carried-lt : (d : Direction) (w n r : ℕ) → n ≤ w → r < 2 ^ w → carried d w n r < 2 ^ w
+carried-lt left w n r hn hr =
+    subst (λ (k : ℕ). r % 2 ^ (w - n) * 2 ^ n < 2 ^ k) (omega arith) (shl-lt (w - n) n (mod-lt r (pow-pos (w - n))))
+carried-lt right w n r hn hr = lt-of-le-of-lt (div-le-self r (2 ^ n)) hr
+
 pub steps-split : (d : Direction) (w p n r : ℕ) → p < 2 ^ w → n ≤ w → r < 2 ^ w
     → steps d w p n r ≡ bitXor (carried d w n r) (steps d w p n (placed d w n (outgoing d w n r)))
 steps-split left w p n r hp hn hr =
@@ -127,6 +150,18 @@ steps-split right w p n r hp hn hr =
     ap (steps right w p n) (sym whole)
     ∙ steps-xor right w p hp n (r / 2 ^ n * 2 ^ n) (r % 2 ^ n) high-fits (lt-of-lt-of-le low-lt (pow-mono hn))
     ∙ ap (λ (x : ℕ). bitXor x (steps right w p n (r % 2 ^ n))) (right-quiet w p n (r / 2 ^ n))
+
+-- .. and m steps more, which what only moved takes by itself
+pub steps-on : (d : Direction) (w p n m r : ℕ) → p < 2 ^ w → n ≤ w → r < 2 ^ w
+    → steps d w p (n + m) r ≡ bitXor (steps d w p m (carried d w n r)) (steps d w p (n + m) (placed d w n (outgoing d w n r)))
+steps-on d w p n m r hp hn hr =
+    let rest = carried d w n r in
+    let out = placed d w n (outgoing d w n r) in
+    let out-lt = placed-lt d w n (outgoing d w n r) hn (outgoing-lt d w n r hn hr) in
+    steps-more d w p n m r
+    ∙ ap (steps d w p m) (steps-split d w p n r hp hn hr)
+    ∙ steps-xor d w p hp m rest (steps d w p n out) (carried-lt d w n r hn hr) (steps-lt d w p hp n out out-lt)
+    ∙ ap (bitXor (steps d w p m rest)) (sym (steps-more d w p n m out))
 
 -- ---- bits that enter at the low end
 

@@ -1,6 +1,6 @@
--- A table of eight steps: one test over all its entries, which antt computes, and one law that turns an entry into a
--- whole register's eight steps. Both checks cite it, each with its direction, width and polynomial. An entry that is
--- worked out and not looked up passes the same test.
+-- A table of a byte's steps: one test over all its entries, which antt computes, and one law that turns an entry into a
+-- whole register's steps, the eight of that byte and any number behind them. Both checks cite it, each with its direction,
+-- width and polynomial. An entry that is worked out and not looked up passes the same test.
 -- Assumes nothing.
 use mathlib.Core.Path.{_≡_, _∙_, subst, sym, ap}
 use mathlib.Core.Bool.{Bool, true, false, _&&_}
@@ -12,7 +12,7 @@ use lib.Dec.{T, eqb, eqb→eq}
 use lib.ListN.{length, getD, replicate}
 use Rattle.crc.specs.Register.{Direction, steps}
 use Rattle.crc.specs.BitByBit.{TableOf}
-use Rattle.crc.proofs.Register.{outgoing, placed, placed-lt, carried, steps-lt, steps-split}
+use Rattle.crc.proofs.Register.{outgoing, placed, placed-lt, carried, steps-lt, steps-on}
 
 first-of : (a b : Bool) → T (a && b) → T a
 first-of true b t = tt
@@ -66,9 +66,16 @@ module _ (d : Direction) (w p : ℕ) (hp : p < 2 ^ w) (hw : 8 ≤ w) where
   pub byte-lt : (k : ℕ) → k < 256 → steps d w p 8 (placed d w 8 k) < 2 ^ w
   byte-lt k hk = steps-lt d w p hp 8 (placed d w 8 k) (placed-lt d w 8 k hw hk)
 
-  -- the law: eight steps of a whole register are its entry, looked up or worked out, added to what only moves
+  -- the law: eight steps of a whole register and m more are the entry of the byte that falls out, looked up or worked out,
+  -- added to what m steps make of the rest
+  pub by-entry-on : (m r e : ℕ) → r < 2 ^ w → e ≡ steps d w p (8 + m) (placed d w 8 (outgoing d w 8 r))
+      → steps d w p (8 + m) r ≡ bitXor (steps d w p m (carried d w 8 r)) e
+  by-entry-on m r e hr is = steps-on d w p 8 m r hp hw hr ∙ ap (bitXor (steps d w p m (carried d w 8 r))) (sym is)
+
+  -- .. and none more
   pub by-entry : (r e : ℕ) → r < 2 ^ w → e ≡ steps d w p 8 (placed d w 8 (outgoing d w 8 r)) → steps d w p 8 r ≡ bitXor (carried d w 8 r) e
-  by-entry r e hr is = steps-split d w p 8 r hp hw hr ∙ ap (bitXor (carried d w 8 r)) (sym is)
+  unfolding steps
+  by-entry r e hr is = by-entry-on 0 r e hr is
 
 module _ (d : Direction) (w p : ℕ) (table : List ℕ) (t : IsTable d w p table) (hp : p < 2 ^ w) (hw : 8 ≤ w) where
   -- an entry has w bits

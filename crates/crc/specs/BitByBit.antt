@@ -27,13 +27,18 @@ modbusRule register (b ∷ bs) = modbusRule (modbusTimes 8 (bitXor register b)) 
 abbrev pub ModbusIsBitByBit : Type 0
 ModbusIsBitByBit = (bytes : List ℕ) → modbusCheck bytes ≡ modbusRule 0xFFFF bytes
 
--- ---- the table of a byte's eight steps
+-- ---- the rows: a byte's eight steps, and two bytes' sixteen
 
 -- 256 entries, each of which is what a rule makes of its index
 pub record TableOf (rule : ℕ → ℕ) (table : List ℕ) : Type 0 where
   pub size : length table ≡ 256
   pub entry : (k : ℕ) → k < 256 → getD table k 0 ≡ rule k
 
--- the Modbus table: entry k is what eight halvings make of a register that holds k
+-- the first row: entry k is what eight halvings make of a register that holds k
 abbrev pub ModbusTable : List ℕ → Type 0
 ModbusTable table = TableOf (modbusTimes 8) table
+
+-- both rows of the Modbus check; entry k of the second is what sixteen halvings make of a register that holds k
+pub record ModbusRows (rows : List (List ℕ)) : Type 0 where
+  pub one : ModbusTable (getD rows 0 [])
+  pub two : TableOf (modbusTimes 16) (getD rows 1 [])

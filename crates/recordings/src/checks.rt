@@ -77,9 +77,9 @@ FD 46 12 = 52 5D
     )
 }
 
-// The Modbus check of one byte, bit by bit as the serial line standard describes it.
-fn bit_by_bit(byte: u8) -> u16 {
-    let mut register = 0xFFFF ^ (byte as u16);
+// What a byte makes of the Modbus register, bit by bit as the serial line standard describes it.
+fn bit_by_bit(before: u16, byte: u8) -> u16 {
+    let mut register = before ^ (byte as u16);
     for _ in 0..8u32 {
         if register % 2 == 1 {
             register = (register / 2) ^ 0xA001;
@@ -94,7 +94,27 @@ pub(crate) fn modbus_alone() -> Tally {
     let mut t = none();
     for b in 0..256u32 {
         let byte = (b % 256) as u8;
-        t = t.with(crc::modbus_check(&[byte]) == bit_by_bit(byte));
+        t = t.with(crc::modbus_check(&[byte]) == bit_by_bit(0xFFFF, byte));
+    }
+    t
+}
+
+// Runs of each length below this one are checked; it is past the longest frame.
+const LENGTHS: usize = 300;
+
+// A run of each length, on both sides of where two bytes a step begin. The byte that makes a run longer
+// is the high one of the check so far, in no order; the low one would leave the check at 0.
+pub(crate) fn modbus_each_length() -> Tally {
+    let mut t = none();
+    let mut bytes = [0u8; LENGTHS];
+    let mut register: u16 = 0xFFFF;
+    let mut n = 0;
+    while n < LENGTHS {
+        t = t.with(crc::modbus_check(start(&bytes, n)) == register);
+        let byte = (register / 256) as u8;
+        bytes[n] = byte;
+        register = bit_by_bit(register, byte);
+        n += 1;
     }
     t
 }

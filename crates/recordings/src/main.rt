@@ -26,6 +26,7 @@ fn say_checks() {
     checks::ebus_alone().say(b"eBUS check, each byte alone");
     checks::modbus_published().say(b"Modbus check, published");
     checks::modbus_alone().say(b"Modbus check, each byte alone");
+    checks::modbus_each_length().say(b"Modbus check, each length to 299");
 }
 
 fn say_escapes() {

@@ -2,7 +2,7 @@
 //! archive's speed above the line, so more is better.
 
 use crate::case::SECOND;
-use crate::checks::{C, C_WIDE, EBUS, MODBUS};
+use crate::checks::{C, C_TWO, C_TWO_WIDE, C_WIDE, EBUS, FRAMES, MODBUS, ONE_BYTE, ROWS_FROM};
 use crate::contest::CONTEST;
 use crate::feed::FEED_64;
 use crate::judge::JUDGE;
@@ -19,6 +19,14 @@ pub struct Bar {
 }
 
 impl Bar {
+    fn on(ratio: &Ratio, least: f64) -> Self {
+        Bar {
+            on: format!("{} {} {}", ratio.case, ratio.size, ratio.peer),
+            least,
+            value: ratio.speed,
+        }
+    }
+
     fn held(&self) -> bool {
         self.value >= self.least
     }
@@ -27,6 +35,10 @@ impl Bar {
 /// All bars on what was measured.
 pub fn all(measured: &[Measured], ratios: &[Ratio]) -> Vec<Bar> {
     let mut bars: Vec<Bar> = ratios.iter().filter_map(on_ratio).collect();
+    // What goes without the rows is the same code as before, so that only the
+    // measuring makes a difference.
+    bars.extend(slowest(ratios, |size| size < ROWS_FROM, 0.95));
+    bars.extend(slowest(ratios, |size| size >= ROWS_FROM, 1.0));
     bars.extend(linear(measured, CONTEST, "key", 64));
     bars.extend(linear(measured, POLL, "device", 31));
     bars.extend(steps(measured).iter().map(Step::bar));
@@ -49,6 +61,8 @@ fn on_ratio(ratio: &Ratio) -> Option<Bar> {
     let least = match (ratio.case, ratio.peer, ratio.size) {
         (MODBUS | EBUS, C | C_WIDE, 64..) => 0.95,
         (MODBUS | EBUS, C | C_WIDE, 8) => 0.6,
+        (MODBUS, C_TWO | C_TWO_WIDE, 256..) => 0.95,
+        (MODBUS, ONE_BYTE, 256..) => 1.5,
         (JUDGE, SECOND, _) => 1.0,
         // Listening takes at most one and a half times as long as judging.
         (FEED_64, JUDGE, _) => 0.66,
@@ -56,11 +70,16 @@ fn on_ratio(ratio: &Ratio) -> Option<Bar> {
         (SCAN, "bus", MOST) => 200.0,
         _ => return None,
     };
-    Some(Bar {
-        on: format!("{} {} {}", ratio.case, ratio.size, ratio.peer),
-        least,
-        value: ratio.speed,
-    })
+    Some(Bar::on(ratio, least))
+}
+
+/// No frame measured takes longer than before: that at which least is gained.
+fn slowest(ratios: &[Ratio], among: impl Fn(usize) -> bool, least: f64) -> Option<Bar> {
+    let frames = ratios.iter().filter(|ratio| ratio.case == FRAMES);
+    let slowest = frames
+        .filter(|ratio| among(ratio.size))
+        .min_by(|a, b| a.speed.total_cmp(&b.speed))?;
+    Some(Bar::on(slowest, least))
 }
 
 /// What grows linearly: one key or device of 247 takes little longer than one of

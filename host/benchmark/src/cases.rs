@@ -9,9 +9,15 @@ const NUMBERS: [usize; 4] = [1, 16, 64, scan::MOST];
 /// Sizes of exchanges.
 const EXCHANGES: [usize; 2] = [exchanges::LONG, exchanges::SHORT];
 
+/// Lengths of frames, those around the first that goes by the rows among them.
+const FRAMES: [usize; 20] = [
+    5, 7, 9, 13, 17, 21, 25, 29, 33, 35, 36, 37, 45, 61, 85, 101, 133, 165, 205, 255,
+];
+
 /// Every case with its sizes, in the order in which they are measured.
-pub const ALL: [(&str, &[usize]); 11] = [
+pub const ALL: [(&str, &[usize]); 12] = [
     (checks::MODBUS, &[8, 64, 256, 4096]),
+    (checks::FRAMES, &FRAMES),
     (checks::EBUS, &[8, 20, 64, 256]),
     (judge::JUDGE, &EXCHANGES),
     (feed::FEED_64, &EXCHANGES),
@@ -29,6 +35,7 @@ pub const ALL: [(&str, &[usize]); 11] = [
 pub fn make(name: &str, size: usize) -> Result<Case, String> {
     match name {
         checks::MODBUS => checks::modbus(size),
+        checks::FRAMES => checks::frames(size),
         checks::EBUS => checks::ebus(size),
         judge::JUDGE => judge::judge(size),
         feed::FEED_64 => feed::feed_64(size),

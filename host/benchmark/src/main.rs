@@ -81,8 +81,10 @@ fn whole(names: &[&str]) -> Result<bool, String> {
 
 /// The times of all cases named, and then their instructions.
 fn measure_all(names: &[&str]) -> Result<Vec<Measured>, String> {
-    if peers::crc_crate()?.is_none() {
-        println!("skipped the crc crate: it was not built");
+    for library in &peers::LIBRARIES {
+        if library.modbus_check()?.is_none() {
+            println!("skipped {}: it was not built", library.name);
+        }
     }
     let mut all = Vec::new();
     let mut alone = Vec::new();

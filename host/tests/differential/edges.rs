@@ -28,6 +28,7 @@ pub fn run_all(session: &mut Session) {
         calls::address(session, address);
     }
     every_pair_of_bytes(session);
+    every_length(session);
     escapes(session);
     telegrams(session);
     exchanges(session);
@@ -39,15 +40,26 @@ pub fn run_all(session: &mut Session) {
     eventedges::run_all(session);
 }
 
-/// The checks over every pair of bytes, which meets every entry of a table.
+/// The checks over every pair of bytes, alone, and for Modbus also at the end of
+/// a run long enough to be taken by pairs, which meets every entry of both rows.
 fn every_pair_of_bytes(session: &mut Session) {
-    calls::ebus_check(session, &[]);
-    calls::modbus_check(session, &[]);
+    let mut long = [0x5A; 256];
     for first in 0..=255 {
         for second in 0..=255 {
             calls::ebus_check(session, &[first, second]);
             calls::modbus_check(session, &[first, second]);
+            long[254..].copy_from_slice(&[first, second]);
+            calls::modbus_check(session, &long);
         }
+    }
+}
+
+/// The checks over a run of every length, past the longest frame.
+fn every_length(session: &mut Session) {
+    let bytes = session.random.bytes(300);
+    for length in 0..=bytes.len() {
+        calls::ebus_check(session, &bytes[..length]);
+        calls::modbus_check(session, &bytes[..length]);
     }
 }
 

@@ -13,11 +13,12 @@ use crate::session::Session;
 use crate::states::states;
 use crate::tables;
 
-/// A family: its name, its share in thousandths, and one step of it.
+/// A family: its name, its share, and one step of it.
 type Family = (&'static str, u64, fn(&mut Session));
 
 const FAMILIES: &[Family] = &[
     ("checks", 37, checks),
+    ("checks of whole frames", 100, frame_checks),
     ("escapes", 104, escapes),
     ("telegrams", 81, telegrams),
     ("telegram writers", 67, telegram_writers),
@@ -37,9 +38,10 @@ const FAMILIES: &[Family] = &[
 
 /// Runs every family.
 pub fn run_all(session: &mut Session) {
+    let shares: u64 = FAMILIES.iter().map(|&(_, share, _)| share).sum();
     for &(name, share, step) in FAMILIES {
         let before = session.total();
-        let inputs = session.inputs() * share / 1000;
+        let inputs = session.inputs() * share / shares;
         println!("{name}: {inputs} inputs");
         while session.total() - before < inputs {
             step(session);
@@ -51,6 +53,14 @@ fn checks(session: &mut Session) {
     let length = session.random.length();
     let bytes = session.random.bytes(length);
     calls::ebus_check(session, &bytes);
+    calls::modbus_check(session, &bytes);
+}
+
+/// The Modbus check of as many bytes as a frame has, both with two bytes a step
+/// and with one.
+fn frame_checks(session: &mut Session) {
+    let length = 3 + session.random.below(253);
+    let bytes = session.random.bytes(length);
     calls::modbus_check(session, &bytes);
 }
 

@@ -12,7 +12,7 @@ use crate::random::Random;
 const SEED: u64 = 0x000E_B052_0017;
 /// The inputs of a run that asks for no other number. A recording that both
 /// sides listen to is one input, in however many runs it is fed.
-const INPUTS: u64 = 10_000_000;
+const INPUTS: u64 = 11_000_000;
 
 /// Declares the functions of the C interface, each with the numbers that
 /// the rules and the header let it give.

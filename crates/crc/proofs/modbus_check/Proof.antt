@@ -3,17 +3,17 @@ use borrow.Author.Needs.{needs}
 use Rattle.crc.proofs.modbus_check.Statement.{statement}
 use Rattle.crc.proofs.modbus_check.Tie as tie
 
-check-frame-requires : tie.Need-check-frame-requires
-check-frame-requires c κs = search needs
+check-without-rows-requires : tie.Need-check-without-rows-requires
+check-without-rows-requires c κs = search needs
 
 returns : tie.Need-returns
-returns c = c .check-frame .ensures
+returns c = c .check-without-rows .ensures
 
-check-by-table-requires : tie.Need-check-by-table-requires
-check-by-table-requires c κs = search needs
+check-by-rows-requires : tie.Need-check-by-rows-requires
+check-by-rows-requires c κs = search needs
 
 returns-2 : tie.Need-returns-2
-returns-2 c = c .check-by-table .ensures
+returns-2 c = c .check-by-rows .ensures
 
 pub modbus-check-spec : {M : Type 1} → statement M
-modbus-check-spec = tie.close (tie.spec check-frame-requires returns check-by-table-requires returns-2)
+modbus-check-spec = tie.close (tie.spec check-without-rows-requires returns check-by-rows-requires returns-2)

@@ -6,10 +6,10 @@ use Rattle.recordings.proofs.checks.bit_by_bit.Statement.{statement}
 use Rattle.recordings.proofs.checks.bit_by_bit.Tie as tie
 
 abbrev Inv-loop : tie.InvT-loop
-Inv-loop byte register₀ counter₀ register counter = counter ≤ 8
+Inv-loop before byte register₀ counter₀ register counter = counter ≤ 8
 
 abbrev μ-loop : tie.MeasureT-loop
-μ-loop byte register₀ counter₀ register counter = 8 - counter
+μ-loop before byte register₀ counter₀ register counter = 8 - counter
 
 loop-holds : tie.Need-loop-holds Inv-loop μ-loop
 loop-holds c = search needs

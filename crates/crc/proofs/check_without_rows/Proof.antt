@@ -1,4 +1,4 @@
--- `crc::check_frame` meets its contract. The loop's invariant: the check of the whole frame is what the register gives
+-- `crc::check_without_rows` meets its contract. The loop's invariant: the check of the whole frame is what the register gives
 -- over the part not yet read. Assumes nothing.
 use mathlib.Core.Path.{refl}
 use Prim.Native.Nat.{_-_, _<_}
@@ -6,8 +6,8 @@ use native.Mathlib.Omega.{arith}
 use lib.Dec.{lit<}
 use lib.ListN.{length, getD}
 use Rattle.crc.proofs.Byte.{Running, modbus-turn, modbus-end}
-use Rattle.crc.proofs.check_frame.Statement.{statement}
-use Rattle.crc.proofs.check_frame.Tie as tie
+use Rattle.crc.proofs.check_without_rows.Statement.{statement}
+use Rattle.crc.proofs.check_without_rows.Tie as tie
 
 abbrev Inv-loop : tie.InvT-loop
 Inv-loop frame register₀ i₀ register i = Running frame register i
@@ -46,8 +46,8 @@ cast-result c = omega arith
 returns : tie.Need-returns Inv-loop μ-loop
 returns c = let l = c .before .loop in modbus-end (c .before .before .before .args .frame .now) (l .i) (l .register) (l .inv) (c .loop-test .left)
 
-pub check-frame-spec : {M : Type 1} → statement M
-check-frame-spec =
+pub check-without-rows-spec : {M : Type 1} → statement M
+check-without-rows-spec =
     tie.close
     (tie.spec
     Inv-loop

@@ -1,27 +1,30 @@
--- `crc::check_by_table` meets its contract. The loop's invariant: the array is the table, and the check of the whole input
--- is what the register gives over the part not yet read. Assumes nothing.
+-- `onebyte::bench_one_byte` meets its contract. The loop's invariant: the array is the first row, and the check of the whole
+-- run is what the register gives over the part not yet read. Assumes nothing.
 use mathlib.Core.Path.{refl}
 use Prim.Native.Nat.{_-_, _<_}
 use native.Mathlib.Omega.{arith}
 use lib.Dec.{lit<}
 use lib.ListN.{length, getD}
 use Rattle.crc.specs.BitByBit.{ModbusTable}
 use Rattle.crc.proofs.Byte.{Running, looked-up, entry-fits, modbus-turn, modbus-end}
 use borrow.Author.Needs.{needs}
-use Rattle.crc.proofs.check_by_table.Statement.{statement}
-use Rattle.crc.proofs.check_by_table.Tie as tie
+use Rattle.onebyte.proofs.bench_one_byte.Statement.{statement}
+use Rattle.onebyte.proofs.bench_one_byte.Tie as tie
 
 abbrev Inv-loop : tie.InvT-loop
-Inv-loop input table register₀ i₀ register i = ModbusTable table × Running input register i
+Inv-loop bytes table register₀ i₀ register i = ModbusTable table × Running bytes register i
 
 abbrev μ-loop : tie.MeasureT-loop
-μ-loop input table register₀ i₀ register i = length input - i
+μ-loop bytes table register₀ i₀ register i = length bytes - i
 
-modbus-table-requires : tie.Need-modbus-table-requires Inv-loop μ-loop
-modbus-table-requires c κs = search needs
+modbus-rows-requires : tie.Need-modbus-rows-requires Inv-loop μ-loop
+modbus-rows-requires c κs = search needs
+
+array-copy-out-table : tie.Need-array-copy-out-table Inv-loop μ-loop
+array-copy-out-table c = omega arith
 
 loop-holds : tie.Need-loop-holds Inv-loop μ-loop
-loop-holds c = (c .modbus-table .ensures, (omega arith, lit< tt, refl))
+loop-holds c = (c .before .modbus-rows .ensures .one, (omega arith, lit< tt, refl))
 
 shared-slice-read-at : tie.Need-shared-slice-read-at Inv-loop μ-loop
 shared-slice-read-at c = omega arith
@@ -41,7 +44,7 @@ array-read-register c = omega arith
 cast-register : tie.Need-cast-register Inv-loop μ-loop
 cast-register c =
     let l = c .before .before .loop in
-    let b = getD (c .before .before .before .before .before .args .input .now) (l .i) 0 in
+    let b = getD (c .before .before .before .before .before .before .args .bytes .now) (l .i) 0 in
     omega (arith, entry-fits (l .register) b _ (looked-up (l .inv .0) (l .register) b))
 
 add-i : tie.Need-add-i Inv-loop μ-loop
@@ -52,26 +55,26 @@ loop-less c = omega arith
 
 loop-again : tie.Need-loop-again Inv-loop μ-loop
 loop-again c =
-    let input = c .before .before .before .before .before .args .input .now in
+    let bytes = c .before .before .before .before .before .before .args .bytes .now in
     let l = c .before .before .loop in
-    let b = getD input (l .i) 0 in
+    let b = getD bytes (l .i) 0 in
     let hb : b < 256 = omega (arith, c .shared-slice-known2 .given (l .i)) in
-    (l .inv .0, modbus-turn input (l .i) (l .register) _ (l .inv .1) (c .before .loop-test .taken) hb (looked-up (l .inv .0) (l .register) b))
+    (l .inv .0, modbus-turn bytes (l .i) (l .register) _ (l .inv .1) (c .before .loop-test .taken) hb (looked-up (l .inv .0) (l .register) b))
 
 cast-result : tie.Need-cast-result Inv-loop μ-loop
 cast-result c = omega arith
 
 returns : tie.Need-returns Inv-loop μ-loop
-returns c =
-    let l = c .before .loop in modbus-end (c .before .before .before .before .args .input .now) (l .i) (l .register) (l .inv .1) (c .loop-test .left)
+returns c = let l = c .before .loop in modbus-end (c .before .before .before .before .before .args .bytes .now) (l .i) (l .register) (l .inv .1) (c .loop-test .left)
 
-pub check-by-table-spec : {M : Type 1} → statement M
-check-by-table-spec =
+pub bench-one-byte-spec : {M : Type 1} → statement M
+bench-one-byte-spec =
     tie.close
     (tie.spec
     Inv-loop
     μ-loop
-    modbus-table-requires
+    modbus-rows-requires
+    array-copy-out-table
     loop-holds
     shared-slice-read-at
     cast-at
