@@ -65,7 +65,7 @@ fn on_ratio(ratio: &Ratio) -> Option<Bar> {
         (MODBUS, ONE_BYTE, 256..) => 1.5,
         (JUDGE, SECOND, _) => 1.0,
         // Listening takes at most one and a half times as long as judging.
-        (FEED_64, JUDGE, _) => 0.66,
+        (FEED_64, JUDGE, _) => 0.667,
         (SCAN | POLL, SECOND, MOST) => 1.0,
         (SCAN, "bus", MOST) => 200.0,
         _ => return None,
