@@ -1,7 +1,7 @@
 /*
  * every_call.c - every function of moortinker.h on the worked examples of
- * docs/RULES.md (W1 to W14), on the event frames that document 000 prints, and
- * on its edges.
+ * docs/RULES.md (W1 to W14), on the event frames that document 000 prints and
+ * the Railbus packets that document 001 prints, and on its edges.
  *
  * Each call prints a line with what it gave. What it gave is compared with
  * what they say; a difference is printed below the line. The last line
@@ -134,6 +134,26 @@ AT(moor_polled, flag, 3);
 AT(moor_polled, events, 4);
 AT(moor_polled, place, 8);
 AT(moor_polled, length, 16);
+
+SIZE(moor_railbus_read, 24);
+AT(moor_railbus_read, number, 0);
+AT(moor_railbus_read, letter, 1);
+AT(moor_railbus_read, address, 2);
+AT(moor_railbus_read, reg, 3);
+AT(moor_railbus_read, checked, 4);
+AT(moor_railbus_read, data, 8);
+AT(moor_railbus_read, place, 16);
+
+SIZE(moor_remembered, 8);
+AT(moor_remembered, phase, 0);
+AT(moor_remembered, reg, 1);
+AT(moor_remembered, data, 4);
+
+SIZE(moor_relayed, 32);
+AT(moor_relayed, number, 0);
+AT(moor_relayed, write, 4);
+AT(moor_relayed, place, 16);
+AT(moor_relayed, length, 24);
 
 /* ---- Counting ------------------------------------------------------------ */
 
@@ -1851,6 +1871,464 @@ static void polls_between_scans(void)
     EXPECT(b.marks[0] == 1 && b.marks[1] == 1 && b.marks[2] == 1);
 }
 
+/* ---- Railbus packets ----------------------------------------------------- */
+
+/* The characters of a packet. */
+#define TEXT(characters) ((bytes){(const uint8_t *)(characters), sizeof(characters) - 1})
+
+/* A character as it can be printed. */
+static char shown(uint8_t character)
+{
+    return character >= ' ' && character <= '~' ? (char)character : '.';
+}
+
+static void print_text(bytes characters)
+{
+    printf(" ");
+    for (size_t i = 0; i < characters.length; i++)
+        printf("%c", shown(characters.start[i]));
+}
+
+static void print_text_call(const char *name, bytes characters)
+{
+    printf("%s", name);
+    print_text(characters);
+    printf(" -> ");
+}
+
+static void railbus_check(bytes characters, uint8_t must)
+{
+    uint8_t got = moor_railbus_check(characters.start, characters.length);
+    print_text_call("moor_railbus_check", characters);
+    printf("%02X\n", got);
+    EXPECT(got == must);
+}
+
+static void checksums(void)
+{
+    railbus_check(TEXT("RPFFR00"), 0x9E);
+    railbus_check(TEXT("RPFFK000015002A"), 0xF4);
+    railbus_check(TEXT("123456789"), 0xF5);
+    railbus_check(BYTES(0xFF), 0xF9);
+    railbus_check(BYTES(0x00, 0x00), 0x80);
+    railbus_check(none, 0x80);
+}
+
+static void read_railbus(bytes packet, moor_railbus_read must)
+{
+    moor_railbus_read got = moor_read_railbus(packet.start, packet.length);
+    print_text_call("moor_read_railbus", packet);
+    if (got.number != MOOR_ACCEPTED)
+        print_refused(got.number, got.place);
+    else
+        printf("%c of %02X, register %02X, data %08X, checksum %s\n", got.letter, got.address,
+               got.reg, (unsigned)got.data, got.checked ? "right" : "not examined");
+    EXPECT(got.number == must.number);
+    EXPECT(got.letter == must.letter);
+    EXPECT(got.address == must.address);
+    EXPECT(got.reg == must.reg);
+    EXPECT(got.checked == must.checked);
+    EXPECT(got.data == must.data);
+    EXPECT(got.place == must.place);
+}
+
+#define SAYS(which, from, at, value) \
+    ((moor_railbus_read){            \
+        .letter = (which), .address = (from), .reg = (at), .checked = 1, .data = (value)})
+#define UNEXAMINED(which, from, at, value) \
+    ((moor_railbus_read){.letter = (which), .address = (from), .reg = (at), .data = (value)})
+#define NOT_SAID(why, where) ((moor_railbus_read){.number = (why), .place = (where)})
+
+/* What document 001 prints, as printed and with checksums. */
+static void printed_packets_read(void)
+{
+    read_railbus(TEXT("RPFFR0000"), UNEXAMINED('R', 0xFF, 0x00, 0));
+    read_railbus(TEXT("RPFFK000015002A00"), UNEXAMINED('K', 0xFF, 0x00, 0x0015002A));
+    read_railbus(TEXT("RP93W000000001000"), UNEXAMINED('W', 0x93, 0x00, 0x10));
+    read_railbus(TEXT("RP93I000000001000"), UNEXAMINED('I', 0x93, 0x00, 0x10));
+    read_railbus(TEXT("RP93W010000001000"), UNEXAMINED('W', 0x93, 0x01, 0x10));
+    read_railbus(TEXT("RP93I010000001000"), UNEXAMINED('I', 0x93, 0x01, 0x10));
+    read_railbus(TEXT("RP93WFD0000E10000"), UNEXAMINED('W', 0x93, 0xFD, 0xE100));
+    read_railbus(TEXT("RP93nFD0000000900"), UNEXAMINED('n', 0x93, 0xFD, 0x09));
+    read_railbus(TEXT("RPFFR009E"), SAYS('R', 0xFF, 0x00, 0));
+    read_railbus(TEXT("RPFFK000015002AF4"), SAYS('K', 0xFF, 0x00, 0x0015002A));
+    read_railbus(TEXT("RP93W00000000109F"), SAYS('W', 0x93, 0x00, 0x10));
+    read_railbus(TEXT("RP93I0000000010EE"), SAYS('I', 0x93, 0x00, 0x10));
+    read_railbus(TEXT("RP93W0100000010A2"), SAYS('W', 0x93, 0x01, 0x10));
+    read_railbus(TEXT("RP93I0100000010D3"), SAYS('I', 0x93, 0x01, 0x10));
+    read_railbus(TEXT("RP93WFD0000E100E4"), SAYS('W', 0x93, 0xFD, 0xE100));
+    read_railbus(TEXT("RP93nFD00000009A4"), SAYS('n', 0x93, 0xFD, 0x09));
+}
+
+static void packets_read(void)
+{
+    read_railbus(TEXT("RP93S00BE"), SAYS('S', 0x93, 0x00, 0));
+    read_railbus(TEXT("RP93N0093"), SAYS('N', 0x93, 0x00, 0));
+    read_railbus(TEXT("RP01WEFABCDEF98F9"), SAYS('W', 0x01, 0xEF, 0xABCDEF98));
+    read_railbus(TEXT("RP00n00FFFFFFFFBC"), SAYS('n', 0x00, 0x00, 0xFFFFFFFF));
+    /* With the top bit clear the other seven mean nothing. */
+    read_railbus(TEXT("RPFFR001E"), UNEXAMINED('R', 0xFF, 0x00, 0));
+    read_railbus(TEXT("RPFFR007F"), UNEXAMINED('R', 0xFF, 0x00, 0));
+}
+
+static void lengths_and_marks_not_read(void)
+{
+    moor_railbus_read wrong_length = NOT_SAID(MOOR_FRAME_LENGTH, 0);
+    read_railbus(none, wrong_length);
+    read_railbus(TEXT("RPFFR009"), wrong_length);
+    read_railbus(TEXT("XXXXXXXX"), wrong_length);
+    read_railbus(TEXT("RPFFR009E0"), wrong_length);
+    read_railbus(TEXT("RPFFR009E\r\n"), wrong_length);
+    read_railbus(TEXT("RPFFR000015002A00"), wrong_length);
+    read_railbus(TEXT("RPFFS000015002A00"), wrong_length);
+    read_railbus(TEXT("RPFFN000015002A00"), wrong_length);
+    read_railbus(TEXT("RPFFK0000"), wrong_length);
+    read_railbus(TEXT("RPFFW0000"), wrong_length);
+    read_railbus(TEXT("RPFFI0000"), wrong_length);
+    read_railbus(TEXT("RPFFn0000"), wrong_length);
+    read_railbus(TEXT("RPFFK000015002AF"), wrong_length);
+    read_railbus(TEXT("RPFFK000015002AF40"), wrong_length);
+    read_railbus(TEXT("rPFFR009E"), NOT_SAID(MOOR_FRAME_HEAD, 0));
+    read_railbus(TEXT("RpFFR009E"), NOT_SAID(MOOR_FRAME_HEAD, 1));
+    read_railbus(TEXT("PRFFX009E"), NOT_SAID(MOOR_FRAME_HEAD, 0));
+    read_railbus(TEXT("RPFFr009E"), NOT_SAID(MOOR_SUBCOMMAND_WRONG, 4));
+    read_railbus(TEXT("RPFFX009E0"), NOT_SAID(MOOR_SUBCOMMAND_WRONG, 4));
+    read_railbus(TEXT("RPgg\xD2""009E"), NOT_SAID(MOOR_SUBCOMMAND_WRONG, 4));
+}
+
+/* The characters beside the digits, at each place where one is due; the first
+ * wrong one is named, and before the checksum. */
+static void digits_not_read(void)
+{
+    static const char beside[] = {'/', ':', '@', 'G', '`', 'a', 'f', 'g', ' ', '\0'};
+    for (size_t at = 2; at < 17; at += at == 3 ? 2 : 1) {
+        for (size_t i = 0; i < sizeof beside; i++) {
+            char packet[] = "RPFFK000015002AF4";
+            packet[at] = beside[i];
+            read_railbus(TEXT(packet), NOT_SAID(MOOR_DIGIT_WRONG, at));
+        }
+    }
+    read_railbus(TEXT("RPFFK000015g02aff"), NOT_SAID(MOOR_DIGIT_WRONG, 11));
+    read_railbus(TEXT("RPFFR009e"), NOT_SAID(MOOR_DIGIT_WRONG, 8));
+    read_railbus(TEXT("RPFFR00FF"), NOT_SAID(MOOR_FRAME_CHECK, 7));
+    read_railbus(TEXT("RPFFR0080"), NOT_SAID(MOOR_FRAME_CHECK, 7));
+    read_railbus(TEXT("RPFFK000015002AF5"), NOT_SAID(MOOR_FRAME_CHECK, 15));
+    read_railbus(TEXT("RPFFK000015002BF4"), NOT_SAID(MOOR_FRAME_CHECK, 15));
+}
+
+static void write_railbus(uint8_t letter, uint8_t address, uint8_t reg, uint32_t data, size_t room,
+                          outcome must)
+{
+    fill(out);
+    moor_written got = moor_write_railbus(letter, address, reg, data, out, room);
+    printf("moor_write_railbus %c %02X %02X %08X -> ", shown(letter), address, reg,
+           (unsigned)data);
+    written(got, must);
+}
+
+#define WROTE_TEXT(characters) ((outcome){MOOR_ACCEPTED, 0, TEXT(characters)})
+
+static void packets_written(void)
+{
+    outcome output_short = REFUSED(MOOR_OUTPUT_SHORT, 0);
+    outcome no_letter = REFUSED(MOOR_SUBCOMMAND_WRONG, 0);
+    write_railbus('R', 0xFF, 0x00, 0, 9, WROTE_TEXT("RPFFR009E"));
+    write_railbus('R', 0xFF, 0x00, 0xFFFFFFFF, 17, WROTE_TEXT("RPFFR009E"));
+    write_railbus('K', 0xFF, 0x00, 0x0015002A, 17, WROTE_TEXT("RPFFK000015002AF4"));
+    write_railbus('W', 0x93, 0x00, 0x10, MOST, WROTE_TEXT("RP93W00000000109F"));
+    write_railbus('I', 0x93, 0x01, 0x10, 17, WROTE_TEXT("RP93I0100000010D3"));
+    write_railbus('W', 0x93, 0xFD, 0xE100, 17, WROTE_TEXT("RP93WFD0000E100E4"));
+    write_railbus('n', 0x93, 0xFD, 0x09, 17, WROTE_TEXT("RP93nFD00000009A4"));
+    write_railbus('S', 0x93, 0x00, 0x10, 9, WROTE_TEXT("RP93S00BE"));
+    write_railbus('N', 0x93, 0x00, 0x10, 9, WROTE_TEXT("RP93N0093"));
+    write_railbus('W', 0x01, 0xEF, 0xABCDEF98, 17, WROTE_TEXT("RP01WEFABCDEF98F9"));
+    write_railbus('R', 0xFF, 0x00, 0, 8, output_short);
+    write_railbus('n', 0xFF, 0x00, 0, 16, output_short);
+    write_railbus('W', 0xFF, 0x00, 0, 0, output_short);
+    write_railbus('r', 0xFF, 0x00, 0, MOST, no_letter);
+    write_railbus('k', 0xFF, 0x00, 0, 0, no_letter);
+    write_railbus(0xD2, 0xFF, 0x00, 0, 17, no_letter);
+}
+
+/* ---- Railbus: a relay device --------------------------------------------- */
+
+/* A device with the address 93. */
+typedef struct {
+    uint32_t registers[MOOR_RELAY_REGISTERS];
+    uint8_t access[MOOR_RELAY_REGISTERS];
+    moor_remembered write;
+} relay;
+
+#define REGISTERS_OF(r) (r).registers, MOOR_RELAY_REGISTERS, (r).access, MOOR_RELAY_REGISTERS
+
+/* Register 1 may be read, 2 written, 3 is absent, and all others may be both.
+ * Each holds its number four times. */
+static relay fresh_relay(void)
+{
+    relay r = {.access = {[1] = MOOR_READ, [2] = MOOR_WRITE, [3] = MOOR_ABSENT}};
+    for (uint32_t i = 0; i < MOOR_RELAY_REGISTERS; i++) {
+        r.registers[i] = i * 0x01010101;
+        if (i == 0 || i > 3)
+            r.access[i] = MOOR_READ_WRITE;
+    }
+    return r;
+}
+
+static bool same_write(moor_remembered a, moor_remembered b)
+{
+    return a.phase == b.phase && a.reg == b.reg && a.data == b.data;
+}
+
+static bool same_relay(const relay *a, const relay *b)
+{
+    return memcmp(a->registers, b->registers, sizeof a->registers) == 0 &&
+           memcmp(a->access, b->access, sizeof a->access) == 0 && same_write(a->write, b->write);
+}
+
+static const moor_remembered no_write = {MOOR_IDLE, 0, 0};
+#define RUNNING(at, value) ((moor_remembered){MOOR_RUNNING, (at), (value)})
+#define FINISHED(at, value) ((moor_remembered){MOOR_FINISHED, (at), (value)})
+
+/* Holds what a device gives to what it must: a refusal or an answer, and the
+ * write that it remembers from then on. */
+static void relayed(moor_relayed got, moor_remembered write, outcome must)
+{
+    if (got.number != MOOR_ACCEPTED) {
+        print_refused(got.number, got.place);
+    } else if (got.length == 0) {
+        printf("no answer\n");
+    } else {
+        printf("%zu characters:", got.length);
+        print_text((bytes){out, got.length < MOST ? got.length : MOST});
+        printf("\n");
+    }
+    EXPECT(got.number == must.number);
+    EXPECT(got.place == must.place);
+    EXPECT(same_write(got.write, write));
+    EXPECT(got.length == must.wrote.length);
+    EXPECT(starts(out, must.wrote));
+}
+
+/* Offers a packet. The device remembers what it must, and nothing else of it
+ * changes. */
+static void offer_railbus(relay *r, bytes packet, moor_remembered write, outcome must)
+{
+    relay before = *r;
+    fill(out);
+    moor_relayed got = moor_offer_railbus(0x93, packet.start, packet.length, REGISTERS_OF(*r),
+                                          r->write, out, MOOR_RELAY_ROOM);
+    print_text_call("moor_offer_railbus", packet);
+    relayed(got, write, must);
+    EXPECT(same_relay(r, &before));
+    r->write = write;
+}
+
+/* Offers a packet that leaves what is remembered as it is. */
+static void offer_unremembered(relay *r, bytes packet, outcome must)
+{
+    offer_railbus(r, packet, r->write, must);
+}
+
+static void finish_railbus(relay *r, moor_remembered write, outcome must)
+{
+    fill(out);
+    moor_relayed got =
+        moor_finish_railbus(0x93, REGISTERS_OF(*r), r->write, out, MOOR_RELAY_ROOM);
+    printf("moor_finish_railbus -> ");
+    relayed(got, write, must);
+    r->write = write;
+}
+
+#define RELAY_VALID(why, must, ...)                                        \
+    do {                                                                   \
+        bool got = moor_relay_valid(__VA_ARGS__);                          \
+        printf("moor_relay_valid, %s -> %s\n", why, got ? "yes" : "no");   \
+        EXPECT(got == (must));                                             \
+    } while (0)
+
+static void relays(void)
+{
+    static const uint32_t registers[257];
+    static const uint8_t access[257];
+    relay r = fresh_relay();
+    RELAY_VALID("256 registers", true, REGISTERS_OF(r));
+    RELAY_VALID("all absent", true, registers, 256, access, 256);
+    RELAY_VALID("255 registers", false, registers, 255, access, 256);
+    RELAY_VALID("257 registers", false, registers, 257, access, 256);
+    RELAY_VALID("255 access bytes", false, registers, 256, access, 255);
+    RELAY_VALID("257 access bytes", false, registers, 256, access, 257);
+    RELAY_VALID("255 of both", false, registers, 255, access, 255);
+    RELAY_VALID("no registers", false, NULL, 0, access, 256);
+    RELAY_VALID("nothing", false, NULL, 0, NULL, 0);
+    r.access[0] = 4;
+    RELAY_VALID("a first access byte of 4", false, REGISTERS_OF(r));
+    r.access[0] = 3;
+    r.access[255] = 255;
+    RELAY_VALID("a last access byte of 255", false, REGISTERS_OF(r));
+}
+
+#define READ_0 TEXT("RP93R0091")
+#define SYNC_0 TEXT("RP93S00BE")
+#define SYNC_3 TEXT("RP93S03A5")
+#define FIRST TEXT("RP93W00000000109F")
+#define OTHER_DATA TEXT("RP93W000000001196")
+#define OTHER_REGISTER TEXT("RP93W0400000010E2")
+#define HOLDS_0 WROTE_TEXT("RP93K0000000000BC")
+#define N_01 WROTE_TEXT("RP93n0000000001A5")
+#define N_02 WROTE_TEXT("RP93n0000000002BE")
+#define N_03 WROTE_TEXT("RP93n0000000003B7")
+#define N_08 WROTE_TEXT("RP93n0000000008E4")
+#define N_10 WROTE_TEXT("RP93n0000000010A7")
+
+/* Absent and forbidden registers, in every phase: the answer is the same, and
+ * what is remembered stays. */
+static void accesses(relay *r)
+{
+    offer_unremembered(r, TEXT("RP93R038A"), WROTE_TEXT("RP93N0388"));
+    offer_unremembered(r, TEXT("RP93W0300000010D8"), WROTE_TEXT("RP93N0388"));
+    offer_unremembered(r, TEXT("RP93R0283"), WROTE_TEXT("RP93n0200000007E9"));
+    offer_unremembered(r, TEXT("RP93W0100000010A2"), WROTE_TEXT("RP93n0100000007AE"));
+    offer_unremembered(r, TEXT("RP93R0198"), WROTE_TEXT("RP93K0101010101FA"));
+    offer_unremembered(r, TEXT("RP93RFFF4"), WROTE_TEXT("RP93KFFFFFFFFFFE4"));
+}
+
+/* Packets for another address, and answers of devices, in every phase. */
+static void packets_without_answer(relay *r)
+{
+    offer_unremembered(r, TEXT("RPFFR009E"), nothing_written);
+    offer_unremembered(r, TEXT("RP92W0000000010A3"), nothing_written);
+    offer_unremembered(r, TEXT("RP94S00B7"), nothing_written);
+    offer_unremembered(r, TEXT("RP93K0000000010B7"), nothing_written);
+    offer_unremembered(r, TEXT("RP93I0000000010EE"), nothing_written);
+    offer_unremembered(r, TEXT("RP93N0388"), nothing_written);
+    offer_unremembered(r, TEXT("RP93nFD00000009A4"), nothing_written);
+}
+
+/* A write from its first copy to the end of what is remembered of it. */
+static void write_relayed(void)
+{
+    relay r = fresh_relay();
+    accesses(&r);
+    packets_without_answer(&r);
+    offer_railbus(&r, SYNC_0, no_write, N_10);
+    offer_railbus(&r, FIRST, RUNNING(0, 0x10), N_01);
+    offer_unremembered(&r, FIRST, N_02);
+    offer_unremembered(&r, TEXT("RP93W000000001000"), N_02);
+    offer_unremembered(&r, OTHER_DATA, N_08);
+    offer_unremembered(&r, OTHER_REGISTER, WROTE_TEXT("RP93n040000000899"));
+    offer_unremembered(&r, SYNC_0, N_08);
+    offer_unremembered(&r, READ_0, HOLDS_0);
+    accesses(&r);
+    packets_without_answer(&r);
+    relay must = r;
+    must.registers[0] = 0x10;
+    must.write = FINISHED(0, 0x10);
+    finish_railbus(&r, FINISHED(0, 0x10), WROTE_TEXT("RP93I0000000010EE"));
+    EXPECT(same_relay(&r, &must));
+    finish_railbus(&r, FINISHED(0, 0x10), nothing_written);
+    EXPECT(same_relay(&r, &must));
+    offer_unremembered(&r, FIRST, N_03);
+    offer_unremembered(&r, READ_0, WROTE_TEXT("RP93K0000000010B7"));
+    accesses(&r);
+    packets_without_answer(&r);
+    offer_railbus(&r, SYNC_3, no_write, WROTE_TEXT("RP93n0300000010E0"));
+    finish_railbus(&r, no_write, nothing_written);
+    offer_railbus(&r, FIRST, RUNNING(0, 0x10), N_01);
+}
+
+/* A finished write is forgotten for a different one, by register or by data. */
+static void different_writes_relayed(void)
+{
+    relay r = fresh_relay();
+    r.write = FINISHED(0, 0x10);
+    offer_railbus(&r, OTHER_DATA, RUNNING(0, 0x11), N_01);
+    offer_unremembered(&r, FIRST, N_08);
+    r.write = FINISHED(0, 0x10);
+    offer_railbus(&r, OTHER_REGISTER, RUNNING(4, 0x10), WROTE_TEXT("RP93n0400000001D8"));
+    finish_railbus(&r, FINISHED(4, 0x10), WROTE_TEXT("RP93I040000001093"));
+    EXPECT(r.registers[4] == 0x10 && r.registers[0] == 0);
+    offer_railbus(&r, FIRST, RUNNING(0, 0x10), N_01);
+}
+
+/* Any phase may be handed in: but for 1 and 2 it is idle, also on a refusal. */
+static void phases_relayed(void)
+{
+    static const uint8_t phases[] = {0, 3, 4, 0x7F, 0x80, 0xFF};
+    for (size_t i = 0; i < sizeof phases; i++) {
+        relay r = fresh_relay();
+        moor_remembered any = {phases[i], 4, 0x10};
+        r.write = any;
+        finish_railbus(&r, no_write, nothing_written);
+        EXPECT(r.registers[4] == 0x04040404);
+        r.write = any;
+        offer_railbus(&r, TEXT("RPFFR009E"), no_write, nothing_written);
+        r.write = any;
+        offer_railbus(&r, READ_0, no_write, HOLDS_0);
+        r.write = any;
+        offer_railbus(&r, OTHER_REGISTER, RUNNING(4, 0x10), WROTE_TEXT("RP93n0400000001D8"));
+        r.write = any;
+        offer_railbus(&r, SYNC_0, no_write, N_10);
+        r.write = any;
+        offer_railbus(&r, none, no_write, REFUSED(MOOR_FRAME_LENGTH, 0));
+        r.write = any;
+        r.access[0] = 4;
+        finish_railbus(&r, no_write, REFUSED(MOOR_TABLE_NOT_VALID, 0));
+    }
+}
+
+/* A finish looks at no access byte, and answers from the address of its own. */
+static void finishes_relayed(void)
+{
+    relay r = fresh_relay();
+    for (uint8_t access = MOOR_ABSENT; access <= MOOR_READ_WRITE; access++) {
+        r.access[0] = access;
+        r.registers[0] = 0;
+        r.write = RUNNING(0, 0x10);
+        finish_railbus(&r, FINISHED(0, 0x10), WROTE_TEXT("RP93I0000000010EE"));
+        EXPECT(r.registers[0] == 0x10);
+    }
+    fill(out);
+    printf("moor_finish_railbus, address FF, a long buffer -> ");
+    relayed(moor_finish_railbus(0xFF, REGISTERS_OF(r), RUNNING(255, 0xABCDEF98), out, MOST),
+            FINISHED(255, 0xABCDEF98), WROTE_TEXT("RPFFIFFABCDEF98B5"));
+    EXPECT(r.registers[255] == 0xABCDEF98);
+}
+
+static void relays_refused(void)
+{
+    relay r = fresh_relay();
+    outcome output_short = REFUSED(MOOR_OUTPUT_SHORT, 0);
+    outcome not_valid = REFUSED(MOOR_TABLE_NOT_VALID, 0);
+    bytes packet = FIRST;
+    r.write = RUNNING(4, 7);
+    offer_unremembered(&r, TEXT("RPFFR009"), REFUSED(MOOR_FRAME_LENGTH, 0));
+    offer_unremembered(&r, TEXT("RQFFR009E"), REFUSED(MOOR_FRAME_HEAD, 1));
+    offer_unremembered(&r, TEXT("RPFFr009E"), REFUSED(MOOR_SUBCOMMAND_WRONG, 4));
+    offer_unremembered(&r, TEXT("RPFFR009E0"), REFUSED(MOOR_FRAME_LENGTH, 0));
+    offer_unremembered(&r, TEXT("RPFfR009E"), REFUSED(MOOR_DIGIT_WRONG, 3));
+    offer_unremembered(&r, TEXT("RP93W00000000109E"), REFUSED(MOOR_FRAME_CHECK, 15));
+    r.access[255] = 4;
+    offer_unremembered(&r, FIRST, not_valid);
+    offer_unremembered(&r, none, not_valid);
+    finish_railbus(&r, r.write, not_valid);
+    relay before = r;
+    fill(out);
+    printf("moor_offer_railbus, 16 bytes -> ");
+    relayed(moor_offer_railbus(0x93, NULL, 0, REGISTERS_OF(r), r.write, out, 16), r.write,
+            output_short);
+    printf("moor_finish_railbus, 16 bytes -> ");
+    relayed(moor_finish_railbus(0x93, REGISTERS_OF(r), r.write, out, 16), r.write, output_short);
+    printf("moor_finish_railbus, nothing runs, no buffer -> ");
+    relayed(moor_finish_railbus(0x93, REGISTERS_OF(r), no_write, NULL, 0), no_write, output_short);
+    printf("moor_offer_railbus, 255 registers -> ");
+    relayed(moor_offer_railbus(0x93, packet.start, packet.length, r.registers, 255, r.access, 256,
+                               r.write, out, 17),
+            r.write, not_valid);
+    printf("moor_finish_railbus, no registers and access bytes -> ");
+    relayed(moor_finish_railbus(0x93, NULL, 0, NULL, 0, r.write, out, 17), r.write, not_valid);
+    EXPECT(same_relay(&r, &before));
+}
+
 int main(void)
 {
     checks();
@@ -1897,6 +2375,18 @@ int main(void)
     full_queue_polled();
     polls_refused();
     polls_between_scans();
+    checksums();
+    printed_packets_read();
+    packets_read();
+    lengths_and_marks_not_read();
+    digits_not_read();
+    packets_written();
+    relays();
+    write_relayed();
+    different_writes_relayed();
+    phases_relayed();
+    finishes_relayed();
+    relays_refused();
     printf("%u held, %u differ\n", held, differ);
     return differ == 0 ? 0 : 1;
 }

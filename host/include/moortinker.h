@@ -1,6 +1,6 @@
 /*
  * moortinker.h - the bus core of a plant-room gateway: eBUS to the boilers,
- * Fast Modbus to the sensors.
+ * Fast Modbus to the sensors, Railbus to the relays.
  *
  * Link with libmoortinker.a (`host/archive` writes it to
  * target/staticlib/). x86-64 Linux. The library keeps no state, allocates
@@ -35,7 +35,7 @@
  *   - a refusal is a number (MOOR_OUTPUT_SHORT and so on, 0 means accepted)
  *     and a place, the offset of the raw byte that is named, 0 where none is;
  *     every lent buffer then keeps its bytes, and the other fields of the
- *     answer are 0.
+ *     answer are 0, but for a state that was handed in, which comes back.
  *
  * What the caller owes, as in any C interface:
  *   - a pointer is aligned, and valid for as many elements as the length behind
@@ -66,7 +66,8 @@ extern "C" {
 #define MOOR_ACCEPTED           0 /* not refused */
 #define MOOR_OUTPUT_SHORT       1 /* a lent output is shorter than stated */
 #define MOOR_TABLE_NOT_VALID    2 /* the device table is not valid, or in event
-                                     calls table and queues are not */
+                                     calls table and queues are not, or in relay
+                                     calls registers and access bytes are not */
 #define MOOR_RUN_ENDED          3 /* the eBUS run ends too early; place: its length */
 #define MOOR_ESCAPE_WRONG       4 /* the byte after A9 is none of 00, 01, AA */
 #define MOOR_SYN_EARLY          5 /* raw AA where another byte was due; a recording's
@@ -79,14 +80,19 @@ extern "C" {
 #define MOOR_REPLY_NACKED      11 /* the reply was NACKed twice; place: the second FF */
 #define MOOR_BUS_ERROR         12 /* an acknowledge byte that is none of 00, FF, AA,
                                      or not AA where SYN is due */
-#define MOOR_FRAME_LENGTH      13 /* Modbus length wrong; of a new event, no such
-                                     device or too much data; place: 0 */
+#define MOOR_FRAME_LENGTH      13 /* Modbus or Railbus length wrong; of a new event,
+                                     no such device or too much data; place: 0 */
 #define MOOR_FRAME_HEAD        14 /* not FD 46; of a packet of events, no sender's id
-                                     and 46; place: the first wrong byte */
-#define MOOR_SUBCOMMAND_WRONG  15 /* a subcommand that this call does not take */
-#define MOOR_FRAME_CHECK       16 /* Modbus check wrong; place: its first byte */
+                                     and 46; of Railbus, not RP; place: the first
+                                     wrong byte */
+#define MOOR_SUBCOMMAND_WRONG  15 /* a subcommand, or a letter of Railbus, that this
+                                     call does not take */
+#define MOOR_FRAME_CHECK       16 /* Modbus check or Railbus checksum wrong; place:
+                                     its first byte */
 #define MOOR_SERIAL_OVER       17 /* serial 2^28 or more; place: its first byte */
 #define MOOR_QUEUE_FULL        18 /* the event queue of a device is full; place: 0 */
+#define MOOR_DIGIT_WRONG       26 /* no upper-case hex digit where one is due in a
+                                     Railbus packet; place: the character */
 
 /* ---- Other constants ---------------------------------------------------- */
 
@@ -126,6 +132,30 @@ extern "C" {
 #define MOOR_MOST_DATA      8 /* the most data bytes of a queued event */
 #define MOOR_SLOT_LENGTH   13 /* the bytes of a slot, which holds one event */
 #define MOOR_SLOTS_LENGTH 104 /* the bytes of the slots of one device */
+
+/* Railbus relays. */
+#define MOOR_RELAY_ROOM       17 /* answer buffer of moor_offer_railbus and
+                                    moor_finish_railbus, and the longest packet */
+#define MOOR_RELAY_REGISTERS 256 /* a relay device's registers and access bytes */
+
+/* What an access byte says of its register. */
+#define MOOR_ABSENT     0
+#define MOOR_READ       1
+#define MOOR_WRITE      2
+#define MOOR_READ_WRITE 3
+
+/* The write that a relay device remembers. */
+#define MOOR_IDLE     0 /* none */
+#define MOOR_RUNNING  1 /* it was received and runs */
+#define MOOR_FINISHED 2 /* it has finished */
+
+/* The data of an 'n' of a relay device. */
+#define MOOR_RECEIVED       0x01 /* the first copy of a write */
+#define MOOR_RETRANSMISSION 0x02 /* a further copy, while it runs */
+#define MOOR_DONE_BEFORE    0x03 /* a further copy, after it has finished */
+#define MOOR_FORBIDDEN      0x07 /* the register is not to be read, or written */
+#define MOOR_BUSY           0x08 /* a write runs, and this is no copy of it */
+#define MOOR_SYNCED         0x10 /* no write runs, and none is remembered now */
 
 /* ---- Answers ------------------------------------------------------------ */
 
@@ -299,6 +329,39 @@ typedef struct {
     size_t length;
 } moor_polled;
 
+/* A Railbus packet that was read: its letter ('R', 'W', 'S', 'K', 'I', 'N' or
+ * 'n'), address, register and data (0 where it carries none), and whether its
+ * checksum was examined: 1, or 0 where its top bit is clear. */
+typedef struct {
+    uint8_t number;
+    uint8_t letter;
+    uint8_t address;
+    uint8_t reg;
+    uint8_t checked;
+    uint32_t data;
+    size_t place;
+} moor_railbus_read;
+
+/* The write that a relay device remembers: MOOR_IDLE, or MOOR_RUNNING or
+ * MOOR_FINISHED with its register and data. A fresh device remembers none, {0}.
+ * Handed in, any other phase is MOOR_IDLE, and register and data are not looked
+ * at; handed back, MOOR_IDLE has them 0, also on a refusal. */
+typedef struct {
+    uint8_t phase;
+    uint8_t reg;
+    uint32_t data;
+} moor_remembered;
+
+/* What a relay device gives: the write that it remembers from now on, and its
+ * answer, `length` characters at the start of the buffer; 0 where there is no
+ * answer. On a refusal it remembers the write that was handed in. */
+typedef struct {
+    uint8_t number;
+    moor_remembered write;
+    size_t place;
+    size_t length;
+} moor_relayed;
+
 /* ---- Checks ------------------------------------------------------------- */
 
 /* The eBUS check byte of logical bytes: A9 counts as A9 00, AA as A9 01. Of
@@ -308,6 +371,11 @@ uint8_t moor_ebus_check(const uint8_t *logical, size_t logical_length);
 /* The Modbus check of the bytes; it is sent low byte first. Of no bytes it is
  * FFFF. Never refuses. */
 uint16_t moor_modbus_check(const uint8_t *bytes, size_t bytes_length);
+
+/* The Railbus checksum of the characters: their CRC7, x^7 + x^3 + 1, and the top
+ * bit, which says that it is to be examined. Of no characters it is 80. Never
+ * refuses. */
+uint8_t moor_railbus_check(const uint8_t *characters, size_t characters_length);
 
 /* ---- eBUS: escapes and addresses ---------------------------------------- */
 
@@ -726,6 +794,82 @@ moor_polled moor_offer_poll(const uint8_t *frame, size_t frame_length,
                             uint8_t *counts, size_t counts_length,
                             uint8_t *slots, size_t slots_length,
                             uint8_t *answer, size_t answer_length);
+
+/* ---- Railbus: packets --------------------------------------------------- */
+
+/* A packet is text: RP, the address in two hex digits, a letter, the register in
+ * two digits, for W, K, I and n the data in eight, and the checksum in two. R, S
+ * and N have 9 characters, the others 17. Digits are upper case. */
+
+/* What a packet says. It must fill the whole input.
+ *
+ * Refuses with
+ *   MOOR_FRAME_LENGTH      if there are fewer than 9 characters; place: 0;
+ *   MOOR_FRAME_HEAD        if it does not begin with RP; place: the first wrong;
+ *   MOOR_SUBCOMMAND_WRONG  if the letter is none of the seven; place: 4;
+ *   MOOR_FRAME_LENGTH      if there are not 9 or 17, as the letter has; place: 0;
+ *   MOOR_DIGIT_WRONG       place: the first character that is no digit where one
+ *                          is due;
+ *   MOOR_FRAME_CHECK       if the checksum has its top bit set and is not that
+ *                          of all characters before it; place: its first. */
+moor_railbus_read moor_read_railbus(const uint8_t *input, size_t input_length);
+
+/* Writes a packet with its checksum, the top bit set: 9 or 17 characters. `data`
+ * is not looked at for R, S and N.
+ *
+ * Refuses, every place being 0, with
+ *   MOOR_SUBCOMMAND_WRONG  if the letter is none of the seven;
+ *   MOOR_OUTPUT_SHORT      if the packet is longer than the output. */
+moor_written moor_write_railbus(uint8_t letter, uint8_t address, uint8_t reg,
+                                uint32_t data,
+                                uint8_t *out, size_t out_length);
+
+/* ---- Railbus: a relay device -------------------------------------------- */
+
+/* A relay device has MOOR_RELAY_REGISTERS registers and as many access bytes,
+ * MOOR_ABSENT to MOOR_READ_WRITE; any other number of either, or another access
+ * byte, is not valid. It remembers one write, which is handed in and handed
+ * back. */
+
+/* Whether registers and access bytes are those of a relay device. */
+bool moor_relay_valid(const uint32_t *registers, size_t registers_length,
+                      const uint8_t *access, size_t access_length);
+
+/* A packet offered to the device with this address. A packet for another
+ * address, and K, I, N and n, get no answer and change nothing. Reading or
+ * writing an absent register is answered with N, and where its access byte
+ * forbids it with n 07, before all else. A read is answered with K and what the
+ * register holds. A write is answered with n. A copy of the write that runs, with
+ * the same register and the same data, gets 02, and a copy of the one that has
+ * finished 03; any other gets 08 while one runs, and else 01, and from then on it
+ * is the one that runs. S is answered with n: 08 while a write runs, else 10, and
+ * a finished one is forgotten. An answer has the device's address and the
+ * packet's register; the bytes behind it stay. No register changes.
+ *
+ * Refuses with
+ *   MOOR_OUTPUT_SHORT     if the answer buffer is under MOOR_RELAY_ROOM bytes,
+ *                         also where there would be no answer; place: 0;
+ *   MOOR_TABLE_NOT_VALID  if registers and access bytes are not valid; place: 0;
+ * and then as moor_read_railbus does. */
+moor_relayed moor_offer_railbus(uint8_t address,
+                                const uint8_t *packet, size_t packet_length,
+                                const uint32_t *registers, size_t registers_length,
+                                const uint8_t *access, size_t access_length,
+                                moor_remembered write,
+                                uint8_t *answer, size_t answer_length);
+
+/* The write that runs has finished: its register takes its data, whatever the
+ * access byte says by now, and the answer is an I with the device's address, that
+ * register and that data. Where none runs there is no answer, and nothing
+ * changes.
+ *
+ * Refuses, every place being 0, with MOOR_OUTPUT_SHORT and MOOR_TABLE_NOT_VALID
+ * as moor_offer_railbus does. */
+moor_relayed moor_finish_railbus(uint8_t address,
+                                 uint32_t *registers, size_t registers_length,
+                                 const uint8_t *access, size_t access_length,
+                                 moor_remembered write,
+                                 uint8_t *answer, size_t answer_length);
 
 #ifdef __cplusplus
 }

@@ -1,7 +1,7 @@
 """The checks as Debian's Python packages compute them.
 
-One argument names whose check it is: pymodbus, crccheck-modbus or
-crccheck-ebus. Each line of standard input is a frame in hex, which may be
+One argument names whose check it is: pymodbus, crccheck-modbus, crccheck-ebus
+or crccheck-railbus. Each line of standard input is a frame in hex, which may be
 empty; each line of standard output is its check in hex. The program ends with
 status 3 where the package is not installed.
 """
@@ -41,6 +41,16 @@ def crccheck_ebus():
     return check
 
 
+def crccheck_railbus():
+    from crccheck.crc import Crc7
+
+    def check(frame):
+        # The top bit says that the checksum is to be examined.
+        return Crc7.calc(frame) | 0x80
+
+    return check
+
+
 def expand(frame):
     """The bytes as they go on the wire: A9 as A9 00, AA as A9 01."""
     wire = bytearray()
@@ -53,6 +63,7 @@ PEERS = {
     "pymodbus": pymodbus_check,
     "crccheck-modbus": crccheck_modbus,
     "crccheck-ebus": crccheck_ebus,
+    "crccheck-railbus": crccheck_railbus,
 }
 
 

@@ -7,7 +7,8 @@
 //! nothing more. A pointer of an empty slice is not read or written through.
 
 use crate::events::{Columns, Event, Request};
-use crate::sys;
+use crate::railbus::Packet;
+use crate::{railbus, sys};
 
 pub(crate) fn ebus_check(logical: &[u8]) -> u8 {
     // SAFETY: pointer and length of one slice, which is only read.
@@ -17,6 +18,11 @@ pub(crate) fn ebus_check(logical: &[u8]) -> u8 {
 pub(crate) fn modbus_check(bytes: &[u8]) -> u16 {
     // SAFETY: pointer and length of one slice, which is only read.
     unsafe { sys::moor_modbus_check(bytes.as_ptr(), bytes.len()) }
+}
+
+pub(crate) fn railbus_check(characters: &[u8]) -> u8 {
+    // SAFETY: pointer and length of one slice, which is only read.
+    unsafe { sys::moor_railbus_check(characters.as_ptr(), characters.len()) }
 }
 
 pub(crate) fn is_initiator(address: u8) -> bool {
@@ -450,6 +456,77 @@ pub(crate) fn offer_poll(
             columns.counts.len(),
             columns.slots.as_mut_ptr(),
             columns.slots.len(),
+            answer.as_mut_ptr(),
+            answer.len(),
+        )
+    }
+}
+
+pub(crate) fn read_railbus(input: &[u8]) -> sys::RailbusRead {
+    // SAFETY: pointer and length of one slice, which is only read.
+    unsafe { sys::moor_read_railbus(input.as_ptr(), input.len()) }
+}
+
+pub(crate) fn write_railbus(packet: Packet, out: &mut [u8]) -> sys::Written {
+    // SAFETY: pointer and length of one slice, which overlaps nothing.
+    unsafe {
+        sys::moor_write_railbus(
+            packet.message.letter(),
+            packet.address,
+            packet.register,
+            packet.message.data().unwrap_or(0),
+            out.as_mut_ptr(),
+            out.len(),
+        )
+    }
+}
+
+pub(crate) fn relay_valid(registers: &[u32], access: &[u8]) -> bool {
+    // SAFETY: pointer and length of each slice; both are only read.
+    unsafe {
+        sys::moor_relay_valid(
+            registers.as_ptr(),
+            registers.len(),
+            access.as_ptr(),
+            access.len(),
+        )
+    }
+}
+
+pub(crate) fn offer_railbus(
+    relay: &railbus::Columns<'_>,
+    packet: &[u8],
+    answer: &mut [u8],
+) -> sys::Relayed {
+    // SAFETY: pointer and length of each slice; the one that is written overlaps
+    // nothing.
+    unsafe {
+        sys::moor_offer_railbus(
+            relay.address,
+            packet.as_ptr(),
+            packet.len(),
+            relay.registers.as_ptr(),
+            relay.registers.len(),
+            relay.access.as_ptr(),
+            relay.access.len(),
+            relay.write.for_archive(),
+            answer.as_mut_ptr(),
+            answer.len(),
+        )
+    }
+}
+
+pub(crate) fn finish_railbus(relay: &mut railbus::Columns<'_>, answer: &mut [u8]) -> sys::Relayed {
+    // SAFETY: pointer and length of each slice; the two that are written overlap
+    // nothing.
+    unsafe {
+        sys::moor_finish_railbus(
+            relay.address,
+            relay.registers.as_mut_ptr(),
+            relay.registers.len(),
+            relay.access.as_ptr(),
+            relay.access.len(),
+            relay.write.for_archive(),
             answer.as_mut_ptr(),
             answer.len(),
         )

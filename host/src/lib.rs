@@ -1,7 +1,8 @@
 //! The proved bus core of a plant-room gateway, from Rust: eBUS to the boilers
 //! ([`ebus`]), Fast Modbus to the sensors ([`modbus`] for the scan frames,
 //! [`devices`] for the devices' side of a scan and whole scans, [`events`] for
-//! the frames of event polling and the devices' side of it).
+//! the frames of event polling and the devices' side of it), Railbus to the
+//! relays ([`railbus`] for the packets and the device's side).
 //!
 //! The work is done by `libmoortinker.a`, whose functions are proved to return
 //! for any bytes of any length, to touch only what they were lent, and to give
@@ -40,6 +41,17 @@
 //! assert_eq!(serials, [5, 9, 0x0001EB37]);
 //! # Ok::<(), moortinker::Refusal>(())
 //! ```
+//!
+//! A packet that switches a relay, as document 001 has it, with its checksum:
+//!
+//! ```
+//! use moortinker::railbus::{read, Message, Packet};
+//!
+//! let packet = Packet { address: 0x93, register: 0, message: Message::Write(0x10) };
+//! assert_eq!(packet.to_string(), "RP93W00000000109F");
+//! assert_eq!(read(b"RP93I0000000010EE")?.packet.message, Message::WriteDone(0x10));
+//! # Ok::<(), moortinker::Refusal>(())
+//! ```
 
 #![deny(missing_docs)]
 #![deny(unsafe_code)]
@@ -50,7 +62,9 @@ mod call;
 pub mod devices;
 pub mod ebus;
 pub mod events;
+mod filled;
 pub mod modbus;
+pub mod railbus;
 mod refusal;
 pub mod sys;
 

@@ -71,8 +71,8 @@ reasons! {
         /// A lent output is shorter than stated.
         OutputShort = 1, "the output is too short";
         /// The device table is not valid; in calls on events, or the queues
-        /// beside it.
-        TableNotValid = 2, "the device table is not valid";
+        /// beside it; of a relay device, the registers or the access bytes.
+        TableNotValid = 2, "the table is not valid";
         /// The eBUS run ends too early, or an escape does. The place is the run's
         /// length; for a listener that is closed, the bytes that it used.
         RunEnded = 3, "the run ends too early";
@@ -95,21 +95,24 @@ reasons! {
         /// An acknowledge byte that is none of 00, FF, AA, or not AA where SYN is
         /// due.
         BusError = 12, "bus error";
-        /// The length of a Modbus frame is wrong, or what it says of its
-        /// lengths; a new event has too much data or is for no device. The place
-        /// is 0.
+        /// The length of a Modbus frame or a Railbus packet is wrong, or what it
+        /// says of its lengths; a new event has too much data or is for no
+        /// device. The place is 0.
         FrameLength = 13, "the frame's length is wrong";
         /// A Modbus frame does not begin FD 46; a packet of events begins with an
-        /// id and 46.
-        FrameHead = 14, "the frame does not begin FD 46";
-        /// A subcommand that the reader does not take.
-        SubcommandWrong = 15, "the subcommand is not one that is taken";
-        /// The check of a Modbus frame is wrong.
+        /// id and 46, a Railbus packet with RP.
+        FrameHead = 14, "the frame does not begin with its mark";
+        /// A subcommand, or a letter of Railbus, that the reader does not take.
+        SubcommandWrong = 15, "the subcommand or letter is not one that is taken";
+        /// The check of a Modbus frame or of a Railbus packet is wrong.
         FrameCheck = 16, "the frame's check is wrong";
         /// A serial of 2^28 or more.
         SerialOver = 17, "the serial is 2^28 or more";
         /// The event queue of a device is full.
         QueueFull = 18, "the event queue is full";
+        /// A character of a Railbus packet that is no upper-case hex digit where
+        /// one is due.
+        DigitWrong = 26, "no upper-case hex digit where one is due";
     }
 }
 

@@ -3,8 +3,9 @@
 //! prefix `moor_`.
 //!
 //! Use it where a C-like call is wanted; [`ebus`](crate::ebus),
-//! [`modbus`](crate::modbus), [`devices`](crate::devices) and
-//! [`events`](crate::events) offer every one of these calls safely.
+//! [`modbus`](crate::modbus), [`devices`](crate::devices),
+//! [`events`](crate::events) and [`railbus`](crate::railbus) offer every one of
+//! these calls safely.
 //!
 //! # Safety
 //!
@@ -34,7 +35,8 @@
 pub const MOOR_ACCEPTED: u8 = 0;
 /// A lent output is shorter than stated.
 pub const MOOR_OUTPUT_SHORT: u8 = 1;
-/// The device table is not valid, or in event calls table and queues are not.
+/// The device table is not valid, or in event calls table and queues are not, or
+/// in relay calls registers and access bytes are not.
 pub const MOOR_TABLE_NOT_VALID: u8 = 2;
 /// The eBUS run ends too early.
 pub const MOOR_RUN_ENDED: u8 = 3;
@@ -56,18 +58,22 @@ pub const MOOR_COMMAND_NACKED: u8 = 10;
 pub const MOOR_REPLY_NACKED: u8 = 11;
 /// An acknowledge byte that is none of 00, FF, AA, or not AA where SYN is due.
 pub const MOOR_BUS_ERROR: u8 = 12;
-/// The Modbus length is wrong.
+/// The Modbus or Railbus length is wrong.
 pub const MOOR_FRAME_LENGTH: u8 = 13;
-/// The frame does not begin FD 46, or one of events with its sender's id.
+/// The frame does not begin FD 46, or one of events with its sender's id, or a
+/// Railbus packet RP.
 pub const MOOR_FRAME_HEAD: u8 = 14;
-/// A subcommand that the call does not take.
+/// A subcommand, or a letter of Railbus, that the call does not take.
 pub const MOOR_SUBCOMMAND_WRONG: u8 = 15;
-/// The Modbus check is wrong.
+/// The Modbus check or the Railbus checksum is wrong.
 pub const MOOR_FRAME_CHECK: u8 = 16;
 /// A serial of 2^28 or more.
 pub const MOOR_SERIAL_OVER: u8 = 17;
 /// The event queue of a device is full.
 pub const MOOR_QUEUE_FULL: u8 = 18;
+/// A character of a Railbus packet that is no upper-case hex digit where one is
+/// due.
+pub const MOOR_DIGIT_WRONG: u8 = 26;
 
 /// The destination FE.
 pub const MOOR_BROADCAST: u8 = 1;
@@ -121,6 +127,41 @@ pub const MOOR_MOST_DATA: usize = 8;
 pub const MOOR_SLOT_LENGTH: usize = 13;
 /// The bytes of the slots of one device.
 pub const MOOR_SLOTS_LENGTH: usize = 104;
+
+/// The room that `moor_offer_railbus` and `moor_finish_railbus` ask for, and the
+/// longest packet.
+pub const MOOR_RELAY_ROOM: usize = 17;
+/// The registers of a relay device, and its access bytes.
+pub const MOOR_RELAY_REGISTERS: usize = 256;
+
+/// There is no such register.
+pub const MOOR_ABSENT: u8 = 0;
+/// The register may be read.
+pub const MOOR_READ: u8 = 1;
+/// The register may be written.
+pub const MOOR_WRITE: u8 = 2;
+/// The register may be read and written.
+pub const MOOR_READ_WRITE: u8 = 3;
+
+/// No write is remembered.
+pub const MOOR_IDLE: u8 = 0;
+/// The write that is remembered was received and runs.
+pub const MOOR_RUNNING: u8 = 1;
+/// The write that is remembered has finished.
+pub const MOOR_FINISHED: u8 = 2;
+
+/// The data of an n: the first copy of a write.
+pub const MOOR_RECEIVED: u32 = 0x01;
+/// The data of an n: a further copy of a write, while it runs.
+pub const MOOR_RETRANSMISSION: u32 = 0x02;
+/// The data of an n: a further copy of a write, after it has finished.
+pub const MOOR_DONE_BEFORE: u32 = 0x03;
+/// The data of an n: the register is not to be read, or written.
+pub const MOOR_FORBIDDEN: u32 = 0x07;
+/// The data of an n: a write runs, and this is no copy of it.
+pub const MOOR_BUSY: u32 = 0x08;
+/// The data of an n: no write runs, and none is remembered now.
+pub const MOOR_SYNCED: u32 = 0x10;
 
 /// What a call that writes gives.
 #[repr(C)]
@@ -391,12 +432,64 @@ pub struct Polled {
     pub length: usize,
 }
 
+/// A Railbus packet read.
+#[repr(C)]
+#[derive(Clone, Copy, Debug, PartialEq, Eq)]
+pub struct RailbusRead {
+    /// The number of the refusal, 0 when accepted.
+    pub number: u8,
+    /// Its letter.
+    pub letter: u8,
+    /// Its address.
+    pub address: u8,
+    /// Its register.
+    pub reg: u8,
+    /// 1 where its checksum was examined, 0 where that has its top bit clear.
+    pub checked: u8,
+    /// Its data, 0 where it carries none.
+    pub data: u32,
+    /// The place of the refusal.
+    pub place: usize,
+}
+
+/// The write that a relay device remembers. It is plain data: any bytes in it
+/// are safe to hand in.
+#[repr(C)]
+#[derive(Clone, Copy, Debug, PartialEq, Eq)]
+pub struct Remembered {
+    /// [`MOOR_RUNNING`], [`MOOR_FINISHED`], or [`MOOR_IDLE`], which any other
+    /// phase handed in is too.
+    pub phase: u8,
+    /// Its register; with [`MOOR_IDLE`] 0 where it is handed back.
+    pub reg: u8,
+    /// Its data; with [`MOOR_IDLE`] 0 where it is handed back.
+    pub data: u32,
+}
+
+/// What a relay device gives.
+#[repr(C)]
+#[derive(Clone, Copy, Debug, PartialEq, Eq)]
+pub struct Relayed {
+    /// The number of the refusal, 0 when accepted.
+    pub number: u8,
+    /// The write that it remembers from now on.
+    pub write: Remembered,
+    /// The place of the refusal.
+    pub place: usize,
+    /// How many characters stand at the start of the answer buffer, 0 where
+    /// there is no answer.
+    pub length: usize,
+}
+
 extern "C" {
     /// The eBUS check byte of logical bytes.
     pub fn moor_ebus_check(logical: *const u8, logical_length: usize) -> u8;
 
     /// The Modbus check of the bytes.
     pub fn moor_modbus_check(bytes: *const u8, bytes_length: usize) -> u16;
+
+    /// The Railbus checksum of the characters.
+    pub fn moor_railbus_check(characters: *const u8, characters_length: usize) -> u8;
 
     /// Whether this is an initiator's address.
     pub fn moor_is_initiator(address: u8) -> bool;
@@ -684,6 +777,53 @@ extern "C" {
         answer: *mut u8,
         answer_length: usize,
     ) -> Polled;
+
+    /// What a Railbus packet says.
+    pub fn moor_read_railbus(input: *const u8, input_length: usize) -> RailbusRead;
+
+    /// Writes a Railbus packet.
+    pub fn moor_write_railbus(
+        letter: u8,
+        address: u8,
+        reg: u8,
+        data: u32,
+        out: *mut u8,
+        out_length: usize,
+    ) -> Written;
+
+    /// Whether registers and access bytes are those of a relay device.
+    pub fn moor_relay_valid(
+        registers: *const u32,
+        registers_length: usize,
+        access: *const u8,
+        access_length: usize,
+    ) -> bool;
+
+    /// A packet offered to a relay device.
+    pub fn moor_offer_railbus(
+        address: u8,
+        packet: *const u8,
+        packet_length: usize,
+        registers: *const u32,
+        registers_length: usize,
+        access: *const u8,
+        access_length: usize,
+        write: Remembered,
+        answer: *mut u8,
+        answer_length: usize,
+    ) -> Relayed;
+
+    /// The write that runs has finished.
+    pub fn moor_finish_railbus(
+        address: u8,
+        registers: *mut u32,
+        registers_length: usize,
+        access: *const u8,
+        access_length: usize,
+        write: Remembered,
+        answer: *mut u8,
+        answer_length: usize,
+    ) -> Relayed;
 }
 
 /// Sizes and offsets, held to what C has on x86-64 Linux. The C example holds
@@ -731,5 +871,10 @@ mod tests {
         event: Event 24 8 { whole 0 kind 1 size 2 identifier 4 start 8 next 16 }
         added: Added 16 8 { number 0 place 8 }
         polled: Polled 24 8 { number 0 answer 1 sender 2 flag 3 events 4 place 8 length 16 }
+        railbus_read: RailbusRead 24 8 {
+            number 0 letter 1 address 2 reg 3 checked 4 data 8 place 16
+        }
+        remembered: Remembered 8 4 { phase 0 reg 1 data 4 }
+        relayed: Relayed 32 8 { number 0 write 4 place 16 length 24 }
     }
 }

@@ -40,8 +40,16 @@ mod polling;
 mod polls;
 #[path = "differential/queues.rs"]
 mod queues;
+#[path = "differential/railbus.rs"]
+mod railbus;
+#[path = "differential/railbusedges.rs"]
+mod railbusedges;
 #[path = "differential/random.rs"]
 mod random;
+#[path = "differential/relay.rs"]
+mod relay;
+#[path = "differential/relaying.rs"]
+mod relaying;
 #[path = "differential/session.rs"]
 mod session;
 #[path = "differential/states.rs"]
@@ -50,12 +58,14 @@ mod states;
 mod tables;
 
 use std::collections::BTreeSet;
+use std::fmt::Debug;
 use std::panic::{catch_unwind, AssertUnwindSafe};
 
 use hearing::settled;
 use lent::{Lent, MARGIN};
 use moortinker::sys;
 use random::Random;
+use relay::{laid_out, remembered, Device};
 use second::exchange::judge;
 use session::{same, Function, Session};
 
@@ -134,7 +144,6 @@ fn a_changed_answer_is_a_difference() {
         place: 0,
         read: 13,
     };
-    assert_eq!(same("answer", &answer, &answer), Ok(()));
     let changed = [
         sys::Judged {
             number: 1,
@@ -152,8 +161,85 @@ fn a_changed_answer_is_a_difference() {
         sys::Judged { place: 1, ..answer },
         sys::Judged { read: 12, ..answer },
     ];
+    assert_each_differs(answer, &changed);
+}
+
+#[test]
+fn a_changed_answer_of_a_relay_device_is_a_difference() {
+    let write = remembering(sys::MOOR_RUNNING);
+    let answer = sys::Relayed {
+        number: 0,
+        write,
+        place: 0,
+        length: 17,
+    };
+    let with = |write| sys::Relayed { write, ..answer };
+    let changed = [
+        sys::Relayed {
+            number: 1,
+            ..answer
+        },
+        with(remembering(sys::MOOR_FINISHED)),
+        with(sys::Remembered { reg: 5, ..write }),
+        with(sys::Remembered { data: 6, ..write }),
+        sys::Relayed { place: 1, ..answer },
+        sys::Relayed {
+            length: 9,
+            ..answer
+        },
+    ];
+    assert_each_differs(answer, &changed);
+}
+
+/// A write that a relay device remembers in this phase.
+fn remembering(phase: u8) -> sys::Remembered {
+    sys::Remembered {
+        phase,
+        reg: 4,
+        data: 7,
+    }
+}
+
+fn assert_each_differs<T: PartialEq + Debug>(answer: T, changed: &[T]) {
+    assert_eq!(same("answer", &answer, &answer), Ok(()));
     for other in changed {
-        assert!(same("answer", &other, &answer).is_err());
+        assert!(same("answer", other, &answer).is_err());
+    }
+}
+
+#[test]
+fn a_phase_that_there_is_not_is_laid_out_as_none() {
+    for phase in 0..=255 {
+        let handed_back = laid_out(remembered(remembering(phase)));
+        let due = match phase {
+            1 | 2 => remembering(phase),
+            _ => sys::Remembered {
+                phase: 0,
+                reg: 0,
+                data: 0,
+            },
+        };
+        assert_eq!(handed_back, due);
+    }
+}
+
+#[test]
+fn a_changed_register_or_access_byte_is_a_difference() {
+    let mut session = Session::new(6, 0);
+    let (registers, access) = ([0; 256], [3; 256]);
+    let write = remembering(sys::MOOR_IDLE);
+    let mut device = Device::new(&mut session, 0x93, write, &registers, &access);
+    for at in 0..device.archive.whole().len() {
+        assert_eq!(device.compare(), Ok(()));
+        device.archive.whole_mut()[at] ^= 1;
+        assert!(device.compare().is_err());
+        device.archive.whole_mut()[at] ^= 1;
+    }
+    for at in 0..device.access.whole().len() {
+        assert_eq!(device.compare(), Ok(()));
+        device.access.whole_mut()[at] ^= 1;
+        assert!(device.compare().is_err());
+        device.access.whole_mut()[at] ^= 1;
     }
 }
 

@@ -48,6 +48,15 @@ fn ebus_check_is_what_crccheck_leaves_before_the_last_byte() {
 }
 
 #[test]
+fn railbus_check_is_what_crccheck_computes() {
+    let frames = random_frames(0x66, 0..=60);
+    let Some(theirs) = python("crccheck-railbus", "python3-crccheck", &frames) else {
+        return;
+    };
+    compare("crccheck, Railbus", &frames, &theirs, railbus_check);
+}
+
+#[test]
 fn modbus_check_is_what_libmodbus_sends() {
     let frames = random_frames(0x44, 2..=254);
     let Some(theirs) = libmodbus("send", &frames) else {
@@ -79,6 +88,11 @@ fn modbus_check(bytes: &[u8]) -> u16 {
 fn ebus_check(logical: &[u8]) -> u16 {
     // SAFETY: the pointer is valid for the length given.
     u16::from(unsafe { sys::moor_ebus_check(logical.as_ptr(), logical.len()) })
+}
+
+fn railbus_check(characters: &[u8]) -> u16 {
+    // SAFETY: the pointer is valid for the length given.
+    u16::from(unsafe { sys::moor_railbus_check(characters.as_ptr(), characters.len()) })
 }
 
 fn compare(peer: &str, frames: &[Vec<u8>], theirs: &[u16], ours: impl Fn(&[u8]) -> u16) {

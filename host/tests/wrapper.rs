@@ -2,6 +2,9 @@
 //! place, what stays on a refusal, the edges, and empty inputs. States of
 //! listening that no feeding makes are handed to the C interface itself.
 
+#[path = "wrapper/railbus.rs"]
+mod railbus;
+
 use std::fmt::Debug;
 
 use moortinker::devices::{

@@ -1,4 +1,4 @@
--- The register of a check, one step over direction, width and polynomial. eBUS is left, 8, 9B; Modbus is right, 16, A001.
+-- The register of a check, one step over direction, width and polynomial. eBUS is left, 8, 9B; Modbus is right, 16, A001; Railbus is left, 8, 12.
 -- Assumes nothing.
 use Prim.Native.Nat.{ℕ, zero, suc, _*_, _/_, _%_, _^_}
 use mathlib.Core.List.{List, [], _∷_}

@@ -34,6 +34,8 @@ pub const NOT_URGENCY: u8 = 13;
 
 pub const NO_ROW: u8 = 14;
 
+pub const NOT_LETTER: u8 = 15;
+
 // The offset in the line says where.
 pub struct Fault {
     pub what: u8,
@@ -62,6 +64,7 @@ fn say_what(page: Page, what: u8) -> Page {
 12 line longer than 65535 bytes
 13 neither urgent nor normal
 14 no such row
+15 none of R, S, N, W, K, I, n
 ",
         what,
         no_number(),

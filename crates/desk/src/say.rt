@@ -160,6 +160,11 @@ pub fn named(page: Page, name: u8, list: &[u8]) -> Page {
     ended(texts::plain(page, name), list)
 }
 
+// A line of text, behind its name.
+pub fn spelled(page: Page, name: u8, text: &[u8]) -> Page {
+    byte(put(byte(texts::plain(page, name), b' '), text), b'\n')
+}
+
 pub fn refused(page: Page, why: Refusal) -> Page {
     let numbers = two(why.number as u64, why.place as u64);
     let a = texts::text(page, texts::REFUSED, numbers);

@@ -8,6 +8,8 @@ use crate::say::Page;
 use crate::texts;
 use crate::word;
 use listening::Listening;
+use relay::REGISTERS;
+use relay::Remembered;
 
 // Every output has room for what a line of 8,192 bytes expands to.
 pub const FULL: usize = 16384;
@@ -43,9 +45,19 @@ pub struct Queues {
     pub slots: [u8; MOST_SLOTS],
 }
 
+// The relay device on Railbus: its address, its registers with their access bytes, and the write that
+// it remembers.
+pub struct Relay {
+    pub address: u8,
+    pub registers: [u32; REGISTERS],
+    pub access: [u8; REGISTERS],
+    pub write: Remembered,
+}
+
 pub struct Desk {
     pub table: Table,
     pub queues: Queues,
+    pub relay: Relay,
     pub listening: Listening,
     // What was answered and is not written out yet.
     pub page: Page,
@@ -73,6 +85,16 @@ fn no_events() -> Queues {
     }
 }
 
+// A relay device whose registers are all 0 and absent, and that remembers no write.
+pub fn fresh_relay(address: u8) -> Relay {
+    Relay {
+        address,
+        registers: [0u32; REGISTERS],
+        access: [0u8; REGISTERS],
+        write: Remembered::Idle,
+    }
+}
+
 impl Table {
     pub fn with_marks(mut self, marks: [u8; MOST_ROWS]) -> Table {
         self.marks = marks;
@@ -84,6 +106,7 @@ pub fn new() -> Desk {
     Desk {
         table: no_rows(),
         queues: no_events(),
+        relay: fresh_relay(0),
         listening: listening::listen(),
         page: say::empty(),
         room: FULL,
@@ -110,6 +133,13 @@ impl Desk {
     // The queues that a command on them left, and what it said.
     pub fn with_queues(mut self, queues: Queues, page: Page) -> Desk {
         self.queues = queues;
+        self.page = page;
+        self
+    }
+
+    // The relay device that a command on it left, and what it said.
+    pub fn with_relay(mut self, relay: Relay, page: Page) -> Desk {
+        self.relay = relay;
         self.page = page;
         self
     }

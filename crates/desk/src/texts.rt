@@ -85,6 +85,24 @@ pub const QUEUE_OF: u8 = 39;
 
 pub const QUEUE: u8 = 40;
 
+pub const PACKET: u8 = 41;
+
+pub const PACKET_WITH: u8 = 42;
+
+pub const CHECKED: u8 = 43;
+
+pub const UNCHECKED: u8 = 44;
+
+pub const NO_ANSWER: u8 = 45;
+
+pub const IDLE: u8 = 46;
+
+pub const RUNNING: u8 = 47;
+
+pub const FINISHED: u8 = 48;
+
+pub const REGISTER: u8 = 49;
+
 pub fn text(page: Page, number: u8, numbers: Numbers) -> Page {
     numbered(
         page,
@@ -128,6 +146,15 @@ pub fn text(page: Page, number: u8, numbers: Numbers) -> Page {
 38 ____urgent $ $$
 39 __$
 40 _flag #, last packet #, # queued|
+41 _to $, register $
+42 _to $, register $, data ^
+43 , checked|
+44 , unchecked|
+45 no answer|
+46 idle|
+47 running W $ ^|
+48 finished W $ ^|
+49 __$ ^ access #|
 ",
         number,
         numbers,

@@ -13,23 +13,29 @@ use polling::Asked;
 
 // The commands by their names: those with words of their own, those on the bytes that the rest of the
 // line is, and those that take no word. A command's number is the place of its name in this list.
-pub fn by_name(name: &[u8], line: &[u8], at: usize, d: Desk) -> Desk {
-    let command = word::place(
+fn number_of(name: &[u8]) -> usize {
+    word::place(
         b"event stored poll write-poll
 offer-poll read-poll read-events
 queues write-no-events",
         name,
-    );
+    )
+}
+
+// Whether this is the name of one of them.
+pub fn knows(name: &[u8]) -> bool {
+    number_of(name) < 9
+}
+
+pub fn by_name(name: &[u8], line: &[u8], at: usize, d: Desk) -> Desk {
+    let command = number_of(name);
     if command < 4 {
         return with_words(command, line, at, d);
     }
     if command < 7 {
         return on_bytes(command, line, at, d);
     }
-    if command < 9 {
-        return alone(command, line, at, d);
-    }
-    d.unknown(line)
+    alone(command, line, at, d)
 }
 
 fn with_words(command: usize, line: &[u8], at: usize, d: Desk) -> Desk {

@@ -14,7 +14,7 @@ unfolding checkBytes
 length-closed body = length-append body (checkBytes body)
 
 -- two bytes behind a body that an output starts with
-two-behind : (body old : List ℕ) (x y : ℕ) → length body + 2 ≤ length old
+pub two-behind : (body old : List ℕ) (x y : ℕ) → length body + 2 ≤ length old
     → set (set (starting body old) (length body) x) (length body + 1) y ≡ starting (body ++ x ∷ y ∷ []) old
 two-behind body old x y room =
     ap (λ (l : List ℕ). set l (length body + 1) y) (written-on body old x (length body) refl (omega arith))

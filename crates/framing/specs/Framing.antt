@@ -1,4 +1,4 @@
--- Rule F1. A framed message and its reader, with what differs from one kind of frame to another as parameters: a few first bytes,
+-- Rules F1 and R3. A framed message and its reader, with what differs from one kind of frame to another as parameters: a few first bytes,
 -- a subcommand, what it carries, and two check bytes. It knows no subcommand and no check of its own.
 -- Assumes nothing.
 use Prim.Native.Nat.{ℕ, zero, suc, _+_, _-_}

@@ -1,4 +1,4 @@
--- The guard before every call to the devices: room first, then the table; the input comes after both. Rule N2.
+-- The guard before every call to devices: room first, then what was lent as a table or as registers; the input comes after both. Rule N2.
 -- Assumes nothing.
 use Prim.Native.Nat.{ℕ}
 use mathlib.Core.Bool.{Bool}

@@ -33,7 +33,7 @@ pub(crate) fn answer(line: &[u8], d: Desk) -> Desk {
 
 // The names of the commands on the bytes that the rest of the line is, of those that take no word,
 // and of those with words of their own. A command's number is the place of its name in this list. The
-// commands of events have a list of their own.
+// commands of events and those of Railbus have lists of their own.
 fn by_name(name: &[u8], line: &[u8], at: usize, d: Desk) -> Desk {
     let command = word::place(
         b"ebus-check expand undo judge write-reply modbus-check read-request read-answer feed
@@ -50,7 +50,13 @@ kind write-command write-request write-found device offer scan room",
     if command < 25 {
         return with_words(command, line, at, d);
     }
-    eventdesk::by_name(name, line, at, d)
+    if eventdesk::knows(name) {
+        return eventdesk::by_name(name, line, at, d);
+    }
+    if raildesk::knows(name) {
+        return raildesk::by_name(name, line, at, d);
+    }
+    d.unknown(line)
 }
 
 fn on_bytes(command: usize, line: &[u8], at: usize, d: Desk) -> Desk {

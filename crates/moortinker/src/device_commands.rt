@@ -222,14 +222,22 @@ pub(crate) fn scan(line: &[u8], at: usize, d: Desk) -> Desk {
     let read = last_number(line, at, u64::MAX);
     match read {
         NumberRead::Wrong(why) => d.wrong(why),
-        NumberRead::Number(cap, _) => scanned(cap as usize, d),
+        NumberRead::Number(cap, _) => {
+            let after = scanned(cap as usize, d.table, d.room, d.page);
+            d.with_table(after.table).with_page(after.page)
+        }
     }
 }
 
-fn scanned(cap: usize, d: Desk) -> Desk {
+// The table that a scan left, and the page with what it said.
+struct AfterScan {
+    table: Table,
+    page: Page,
+}
+
+fn scanned(cap: usize, table: Table, room: usize, page: Page) -> AfterScan {
     let mut found_serials = [0x5A5A5A5Au32; MOST_ROOM];
     let mut found_addresses = [FILL; MOST_ROOM];
-    let table = d.table;
     let rows = table.rows;
     let serials = table.serials;
     let addresses = table.addresses;
@@ -238,12 +246,14 @@ fn scanned(cap: usize, d: Desk) -> Desk {
         serials_of(&serials, rows),
         column(&addresses, rows),
         lent(&mut marks, rows),
-        lent_serials(&mut found_serials, d.room),
-        lent(&mut found_addresses, d.room),
+        lent_serials(&mut found_serials, room),
+        lent(&mut found_addresses, room),
         cap,
     );
-    let page = say_scan(s, &found_serials, &found_addresses, d.page);
-    d.with_table(table.with_marks(marks)).with_page(page)
+    AfterScan {
+        table: table.with_marks(marks),
+        page: say_scan(s, &found_serials, &found_addresses, page),
+    }
 }
 
 // How a scan ended: the text for it, with how many requests were sent and how many devices heard.

@@ -59,6 +59,18 @@ pub(crate) fn commands(page: Page) -> Page {
                         write a poll
   write-no-events       write the answer that nobody has events
   read-events HEX       read the answer to a poll
+  read-railbus TEXT     read a Railbus packet, the rest of the line
+  read-railbus-hex HEX  read one from any bytes
+  write-railbus R BYTE BYTE
+                        write a packet: letter, address, register; and behind
+                        W, K, I, n its data, a SERIAL
+  relay BYTE            a fresh relay device with this address
+  register BYTE SERIAL NUM
+                        set a register of it: value, access byte
+  offer-railbus TEXT    offer it a packet
+  offer-railbus-hex HEX offer it any bytes
+  finish                the write that runs has finished
+  registers             show the remembered write and the registers
 ",
         no_number(),
     )

@@ -3,8 +3,8 @@ use crate::checks;
 use crate::escaping;
 use crate::exchanges;
 use crate::frames;
-use crate::tally::Tally;
-use crate::tally::none;
+use tally::Tally;
+use tally::none;
 
 // What the lines of a group are.
 pub(crate) enum Lines {

@@ -5,9 +5,9 @@ use crate::cases::Checked;
 use crate::cases::Lines;
 use crate::cases::cases;
 use crate::lines::read_field;
-use crate::lines::start;
-use crate::tally::Tally;
-use crate::tally::none;
+use tally::Tally;
+use tally::none;
+use tally::part::start;
 
 pub(crate) fn ebus_case(text: &[u8], at: usize) -> Checked {
     let mut input = [0u8; 64];

@@ -5,15 +5,14 @@
 use crate::cases::Checked;
 use crate::cases::Lines;
 use crate::cases::cases;
-use crate::lines::lent;
 use crate::lines::read_field;
-use crate::lines::start;
 use crate::lines::wide;
-use crate::tally::Tally;
 use refusal::Written;
-
-// What stays untouched in a lent output is 5A.
-pub(crate) const FILL: u8 = 0x5A;
+use tally::Tally;
+use tally::part::FILL;
+use tally::part::holds;
+use tally::part::lent;
+use tally::part::start;
 
 // Whether the answer is this length.
 fn length_is(w: Written, expected: usize) -> bool {
@@ -29,22 +28,6 @@ fn refused_is(w: Written, number: u8, place: usize) -> bool {
         Written::Length(_) => false,
         Written::Refused(why) => why.number == number && why.place == place,
     }
-}
-
-// Whether the output starts with these bytes and is filled behind them.
-pub(crate) fn holds(out: &[u8], expected: &[u8]) -> bool {
-    let mut right = expected.len() <= out.len();
-    let mut i = 0;
-    while i < out.len() {
-        let due = if i < expected.len() {
-            expected[i]
-        } else {
-            FILL
-        };
-        right = right && out[i] == due;
-        i += 1;
-    }
-    right
 }
 
 fn changed(undoing: bool, input: &[u8], out: &mut [u8]) -> Written {

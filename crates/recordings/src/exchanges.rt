@@ -7,16 +7,16 @@
 use crate::cases::Checked;
 use crate::cases::Lines;
 use crate::cases::cases;
-use crate::escaping::FILL;
-use crate::escaping::holds;
 use crate::lines::read_field;
-use crate::lines::start;
 use crate::lines::wide;
-use crate::tally::Tally;
-use crate::tally::none;
 use addresses::ExchangeKind;
 use exchange::judge::Judged;
 use exchange::judge::judge;
+use tally::Tally;
+use tally::none;
+use tally::part::FILL;
+use tally::part::holds;
+use tally::part::start;
 
 // The kinds, as numbers to compare.
 const BROADCAST: u8 = 0;

@@ -6,10 +6,10 @@ use crate::cases::Checked;
 use crate::cases::Lines;
 use crate::cases::cases;
 use crate::lines::read_field;
-use crate::lines::start;
-use crate::tally::Tally;
 use answers::AnswerRead;
 use answers::read_answer;
+use tally::Tally;
+use tally::part::start;
 
 // Whether a device was found with this serial and this address, or the end where none is due.
 fn read_as(read: AnswerRead, due: [u8; 5], n: usize) -> bool {

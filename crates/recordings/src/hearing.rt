@@ -1,14 +1,14 @@
 // Bytes as they arrive: a recording in cuts is held to what judging it at once gives.
-use crate::escaping::FILL;
-use crate::escaping::holds;
 use crate::exchanges::answered;
 use crate::exchanges::due_of;
-use crate::lines::rest;
-use crate::lines::start;
-use crate::tally::Tally;
-use crate::tally::none;
 use exchange::judge::judge;
 use listening::Listening;
+use tally::Tally;
+use tally::none;
+use tally::part::FILL;
+use tally::part::holds;
+use tally::part::rest;
+use tally::part::start;
 
 // How many bytes the recording below has.
 const LENGTH: usize = 58;

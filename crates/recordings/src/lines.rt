@@ -68,30 +68,6 @@ pub(crate) fn read_field(text: &[u8], at: usize, hexadecimal: bool, out: &mut [u
     }
 }
 
-// The first n bytes, or all where there are fewer.
-pub(crate) fn start(list: &[u8], n: usize) -> &[u8] {
-    if n <= list.len() {
-        return &list[..n];
-    }
-    list
-}
-
-// The bytes from the nth on, or none where there are fewer.
-pub(crate) fn rest(list: &[u8], n: usize) -> &[u8] {
-    if n <= list.len() {
-        return &list[n..];
-    }
-    start(list, 0)
-}
-
-// The first n bytes, to be written to.
-pub(crate) fn lent(out: &mut [u8], n: usize) -> &mut [u8] {
-    if n <= out.len() {
-        return &mut out[..n];
-    }
-    out
-}
-
 pub(crate) fn wide(b: u8) -> usize {
     b as usize
 }

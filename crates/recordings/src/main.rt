@@ -9,7 +9,6 @@ mod hearing;
 mod lines;
 mod polling;
 mod scans;
-mod tally;
 
 fn main() {
     say_checks();

@@ -3,21 +3,21 @@
 //
 // A case is a line: bytes, a letter that says what is done with them, and what that must give, or `!`
 // with the number and place of the refusal. Each line finds what those before it left.
-use crate::escaping::FILL;
-use crate::escaping::holds;
-use crate::lines::lent;
 use crate::lines::read_field;
-use crate::lines::rest;
-use crate::lines::start;
 use crate::lines::wide;
-use crate::tally::Tally;
-use crate::tally::none;
 use eventrequests::EventRequest;
 use eventrequests::EventRequestRead;
 use newevents::Added;
 use packets::EventsRead;
 use polls::Polled;
 use refusal::Refusal;
+use tally::Tally;
+use tally::none;
+use tally::part::FILL;
+use tally::part::holds;
+use tally::part::lent;
+use tally::part::rest;
+use tally::part::start;
 
 // There are two devices.
 const ROWS: usize = 2;

@@ -1,11 +1,12 @@
 // Whole scans of made tables: the answer, the number of requests, how many serials were named in
 // rising order, and how many devices are marked.
-use crate::lines::lent;
-use crate::lines::start;
-use crate::tally::Tally;
-use crate::tally::none;
 use devices::Scanned;
 use devices::scan;
+use tally::Tally;
+use tally::none;
+use tally::part::lent;
+use tally::part::lent_words;
+use tally::part::start;
 
 // What stays untouched in a lent list.
 const FILL: u32 = 0x5A5A5A5A;
@@ -86,14 +87,6 @@ fn serials_of(list: &[u32], n: usize) -> &[u32] {
     list
 }
 
-// The first n serials, to be written to.
-fn lent_serials(out: &mut [u32], n: usize) -> &mut [u32] {
-    if n <= out.len() {
-        return &mut out[..n];
-    }
-    out
-}
-
 // Whether a scan of the first n devices, with lists of that length, under a cap gives this answer with its count, names so many serials in
 // rising order, and marks as many devices.
 fn scanned(
@@ -115,7 +108,7 @@ fn scanned(
         serials_of(&serials, n),
         start(&addresses, n),
         lent(&mut marks, n),
-        lent_serials(&mut found, n),
+        lent_words(&mut found, n),
         lent(&mut at, n),
         cap,
     );

@@ -57,6 +57,9 @@ serialOver = 17
 abbrev pub queueFull : ℕ
 queueFull = 18
 
+abbrev pub digitWrong : ℕ
+digitWrong = 26
+
 -- a number at a place
 abbrev pub at-place : ℕ → ℕ → Refusal
 at-place number place = record { number = number; place = place }

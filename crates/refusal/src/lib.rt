@@ -39,6 +39,8 @@ pub const FRAME_CHECK: u8 = 16;
 pub const SERIAL_OVER: u8 = 17;
 // A device's event queue is full.
 pub const QUEUE_FULL: u8 = 18;
+// No hex digit stands where one is due.
+pub const DIGIT_WRONG: u8 = 26;
 
 // A refusal: the number, and the offset of the raw byte named, 0 where none is named.
 pub struct Refusal {

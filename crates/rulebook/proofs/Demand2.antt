@@ -42,6 +42,7 @@ use Rattle.rulebook.specs.Rules.{OnWire, Idle}
 use Rattle.rulebook.specs.ReadBack.{commandBytes, replyBytes, Before, nothing, nacked-once, attemptsOf, firstTried, secondTried}
 use Rattle.rulebook.specs.Demand2.{Stands, Recorded, Filled, Shown, BusDemand, FrameDemand, Demand2}
 use Rattle.rulebook.proofs.EventFrames.{event-frames}
+use Rattle.rulebook.proofs.RailbusPackets.{railbus-demand}
 use Rattle.rulebook.proofs.RuleBook.{rules-accepted, accepted-by-rules}
 use Rattle.rulebook.proofs.Recording.{accepted-recorded, recorded-accepted, recorded-longer, recorded-read}
 use Rattle.rulebook.proofs.DataShown.{data-shown, first-shows, second-shows}
@@ -272,4 +273,4 @@ frames =
     }
 
 pub demand2 : Demand2
-demand2 = record { bus = bus; frames = frames; events = event-frames }
+demand2 = record { bus = bus; frames = frames; events = event-frames; railbus = railbus-demand }

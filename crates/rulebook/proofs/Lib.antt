@@ -7,6 +7,7 @@ pub mod Recording
 pub mod WrittenRead
 pub mod DataShown
 pub mod EventFrames
+pub mod RailbusPackets
 pub mod Demand2
 pub mod LongerRun
 pub mod WireLength

@@ -1,5 +1,5 @@
--- Demand 2, as one claim: of eBUS and of the frames of Fast Modbus, scans and events, what is read is exactly what may be written, and what was
--- written is read back. Each line says in our words what it states. The proof is in proofs/Demand2.antt; nothing here needs it to
+-- Demand 2, as one claim: of eBUS, of the frames of Fast Modbus, scans and events, and of the packets of Railbus, what is read is exactly what may be
+-- written, or on Railbus that with a checksum that is not examined, and what was written is read back. Each line says in our words what it states. The proof is in proofs/Demand2.antt; nothing here needs it to
 -- be read.
 -- Assumes nothing.
 use mathlib.Core.Path.{_≡_}
@@ -45,6 +45,10 @@ use Rattle.eventrequests.specs.declared.EventRequest.{EventRequest}
 use Rattle.packets.specs.Layout.{noEventsFrame}
 use Rattle.packets.specs.Writing.{writeNoEvents}
 use Rattle.packets.specs.RoundTrip.{EventPackets}
+use Rattle.railbus.specs.Layout.{packetText}
+use Rattle.railbus.specs.Writing.{writePacket}
+use Rattle.railbus.specs.RoundTrip.{RailbusPackets}
+use Rattle.railbus.specs.declared.Packet.{Packet}
 use Rattle.rulebook.specs.Rules.{CommandForm, ReplyForm, Right, OnWire, Idle}
 use Rattle.rulebook.specs.ReadBack.{commandBytes, replyBytes, Before, rawBefore, attemptsOf, firstTried, secondTried}
 
@@ -191,7 +195,17 @@ pub record EventDemand : Type 0 where
   pub requests : EventRequests
   pub packets : EventPackets
 
+-- ---- the packets of Railbus
+
+pub record RailbusDemand : Type 0 where
+  -- a packet is written where it fits, and nothing else is
+  pub packet-written : (p : Packet) (room : ℕ) → length (packetText p) ≤ room → writePacket p room ≡ bytes (packetText p)
+  pub packet-only : (p : Packet) (room : ℕ) (raw : List ℕ) → writePacket p room ≡ bytes raw → (raw ≡ packetText p) × (length raw ≤ room)
+  -- read back as what went in, and nothing else accepted, but with a checksum that is not examined (railbus/RoundTrip)
+  pub packets : RailbusPackets
+
 pub record Demand2 : Type 0 where
   pub bus : BusDemand
   pub frames : FrameDemand
   pub events : EventDemand
+  pub railbus : RailbusDemand

@@ -17,6 +17,30 @@ pub struct Case {
     pub candidates: Vec<Candidate>,
 }
 
+impl Case {
+    /// The archive and the second implementation, each with one call on each of
+    /// its own inputs.
+    pub fn beside_second<I: Clone + 'static, R: 'static, S: 'static>(
+        name: &'static str,
+        size: usize,
+        ours: fn(&mut I) -> R,
+        theirs: fn(&mut I) -> S,
+        inputs: Vec<I>,
+    ) -> Self {
+        let calls = inputs.len();
+        let candidates = vec![
+            Candidate::on_each(OURS, ours, inputs.clone()),
+            Candidate::on_each(SECOND, theirs, inputs),
+        ];
+        Case {
+            name,
+            size,
+            calls,
+            candidates,
+        }
+    }
+}
+
 /// One way to do the work.
 pub struct Candidate {
     pub name: &'static str,

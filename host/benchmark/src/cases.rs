@@ -1,7 +1,7 @@
 //! All cases, and how one is made from its name and size.
 
 use crate::case::Case;
-use crate::{checks, contest, exchanges, feed, idle, judge, poll, scan, table};
+use crate::{checks, contest, exchanges, feed, idle, judge, poll, railbus, scan, table};
 
 /// Numbers of keys and of devices.
 const NUMBERS: [usize; 4] = [1, 16, 64, scan::MOST];
@@ -15,7 +15,7 @@ const FRAMES: [usize; 20] = [
 ];
 
 /// Every case with its sizes, in the order in which they are measured.
-pub const ALL: [(&str, &[usize]); 12] = [
+pub const ALL: [(&str, &[usize]); 15] = [
     (checks::MODBUS, &[8, 64, 256, 4096]),
     (checks::FRAMES, &FRAMES),
     (checks::EBUS, &[8, 20, 64, 256]),
@@ -28,6 +28,9 @@ pub const ALL: [(&str, &[usize]); 12] = [
     (table::START, &NUMBERS),
     (scan::SCAN, &NUMBERS),
     (poll::POLL, &[31, 124, scan::MOST]),
+    (railbus::READ, &[railbus::LONG]),
+    (railbus::WRITE, &[railbus::LONG]),
+    (railbus::OFFER, &[railbus::LONG]),
 ];
 
 /// Makes the inputs and compares the candidates' answers on them; an error is
@@ -46,6 +49,9 @@ pub fn make(name: &str, size: usize) -> Result<Case, String> {
         table::START => table::start(size),
         scan::SCAN => scan::scan(size),
         poll::POLL => poll::poll(size),
+        railbus::READ => railbus::read(size),
+        railbus::WRITE => railbus::write(size),
+        railbus::OFFER => railbus::offer(size),
         _ => Err(format!("there is no case {name}")),
     }
 }

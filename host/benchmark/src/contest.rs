@@ -3,7 +3,7 @@
 use moortinker::sys;
 use second::devices;
 
-use crate::case::{Candidate, Case, OURS, SECOND};
+use crate::case::{Case, OURS, SECOND};
 use crate::random::Random;
 
 pub const CONTEST: &str = "contest";
@@ -21,16 +21,13 @@ pub fn contest(size: usize) -> Result<Case, String> {
     let mut random = Random::new(size as u64);
     let lists: Vec<Keys> = (0..LISTS).map(|_| keys(&mut random, size)).collect();
     compare(&lists)?;
-    let candidates = vec![
-        Candidate::on_each(OURS, contest_ours, lists.clone()),
-        Candidate::on_each(SECOND, contest_second, lists),
-    ];
-    Ok(Case {
-        name: CONTEST,
+    Ok(Case::beside_second(
+        CONTEST,
         size,
-        calls: LISTS,
-        candidates,
-    })
+        contest_ours,
+        contest_second,
+        lists,
+    ))
 }
 
 /// The keys of so many devices in the middle of a scan: each is scanned every

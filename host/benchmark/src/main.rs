@@ -18,6 +18,7 @@ mod machine;
 mod measure;
 mod peers;
 mod poll;
+mod railbus;
 mod random;
 mod report;
 mod scan;

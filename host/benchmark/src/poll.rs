@@ -8,7 +8,7 @@ use second::events::EventRequest;
 use second::queues::{self, Heard, Polled, Queues};
 use second::Refusal;
 
-use crate::case::{Candidate, Case, OURS, SECOND};
+use crate::case::{Case, OURS, SECOND};
 use crate::random::Random;
 
 pub const POLL: &str = "poll";
@@ -82,16 +82,7 @@ pub fn poll(size: usize) -> Result<Case, String> {
     let mut own: Vec<Bus> = (0..TABLES).map(|_| Bus::new(&mut random, size)).collect();
     let mut theirs = own.clone();
     compare(&mut own, &mut theirs)?;
-    let candidates = vec![
-        Candidate::on_each(OURS, poll_ours, own),
-        Candidate::on_each(SECOND, poll_second, theirs),
-    ];
-    Ok(Case {
-        name: POLL,
-        size,
-        calls: TABLES,
-        candidates,
-    })
+    Ok(Case::beside_second(POLL, size, poll_ours, poll_second, own))
 }
 
 fn poll_ours(bus: &mut Bus) -> sys::Polled {

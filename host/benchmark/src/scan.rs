@@ -6,7 +6,7 @@ use moortinker::sys;
 use second::devices::{self, ScanEnd, Scanned};
 use second::Refusal;
 
-use crate::case::{Candidate, Case, OURS, SECOND};
+use crate::case::{Case, OURS, SECOND};
 use crate::random::Random;
 
 pub const SCAN: &str = "scan";
@@ -56,16 +56,7 @@ pub fn scan(size: usize) -> Result<Case, String> {
     let mut own: Vec<Bus> = (0..TABLES).map(|_| Bus::new(&mut random, size)).collect();
     let mut theirs = own.clone();
     compare(size, &mut own, &mut theirs)?;
-    let candidates = vec![
-        Candidate::on_each(OURS, scan_ours, own),
-        Candidate::on_each(SECOND, scan_second, theirs),
-    ];
-    Ok(Case {
-        name: SCAN,
-        size,
-        calls: TABLES,
-        candidates,
-    })
+    Ok(Case::beside_second(SCAN, size, scan_ours, scan_second, own))
 }
 
 fn scan_ours(bus: &mut Bus) -> sys::Scanned {

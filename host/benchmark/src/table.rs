@@ -5,7 +5,7 @@
 use moortinker::sys;
 use second::{devices, Refusal};
 
-use crate::case::{Candidate, Case, OURS, SECOND};
+use crate::case::{Case, OURS, SECOND};
 use crate::random::Random;
 
 pub const VALID: &str = "table-valid";
@@ -44,7 +44,13 @@ pub fn valid(size: usize) -> Result<Case, String> {
             ));
         }
     }
-    Ok(case(VALID, size, valid_ours, valid_second, tables))
+    Ok(Case::beside_second(
+        VALID,
+        size,
+        valid_ours,
+        valid_second,
+        tables,
+    ))
 }
 
 pub fn start(size: usize) -> Result<Case, String> {
@@ -59,31 +65,19 @@ pub fn start(size: usize) -> Result<Case, String> {
             ));
         }
     }
-    Ok(case(START, size, start_ours, start_second, tables(size)))
+    let tables = tables(size);
+    Ok(Case::beside_second(
+        START,
+        size,
+        start_ours,
+        start_second,
+        tables,
+    ))
 }
 
 fn tables(size: usize) -> Vec<Table> {
     let mut random = Random::new(size as u64);
     (0..TABLES).map(|_| Table::new(&mut random, size)).collect()
-}
-
-fn case<R: 'static, S: 'static>(
-    name: &'static str,
-    size: usize,
-    ours: fn(&mut Table) -> R,
-    theirs: fn(&mut Table) -> S,
-    tables: Vec<Table>,
-) -> Case {
-    let candidates = vec![
-        Candidate::on_each(OURS, ours, tables.clone()),
-        Candidate::on_each(SECOND, theirs, tables),
-    ];
-    Case {
-        name,
-        size,
-        calls: TABLES,
-        candidates,
-    }
 }
 
 fn valid_ours(table: &mut Table) -> bool {

@@ -15,7 +15,9 @@ pub mod exchange;
 pub mod frames;
 pub mod listener;
 pub mod queues;
+pub mod railbus;
 pub mod refusal;
+pub mod relay;
 
 pub use listener::Listener;
 pub use refusal::Refusal;

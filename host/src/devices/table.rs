@@ -1,6 +1,7 @@
 //! A device table that owns its columns, and what its calls give.
 
 use super::{Columns, Device, Devices, ScanEnd, ANSWER_ROOM};
+use crate::filled::Filled;
 use crate::{call, Reason, Refusal};
 
 const VALID: &str = "a valid table with room for its answers is not refused";
@@ -133,8 +134,9 @@ impl Table {
     /// # Ok::<(), moortinker::Refusal>(())
     /// ```
     pub fn start(&mut self) -> Option<Reply> {
-        let columns = &mut self.columns();
-        Reply::of(|answer| columns.start(answer)).expect(VALID)
+        let mut columns = self.columns();
+        let filled = Filled::by(|answer| columns.start(answer)).expect(VALID);
+        filled.map(Reply)
     }
 
     /// A continue: all devices contend with the marks as they stand. `None` is
@@ -149,8 +151,9 @@ impl Table {
     /// # Ok::<(), moortinker::Refusal>(())
     /// ```
     pub fn resume(&mut self) -> Option<Reply> {
-        let columns = &mut self.columns();
-        Reply::of(|answer| columns.resume(answer)).expect(VALID)
+        let mut columns = self.columns();
+        let filled = Filled::by(|answer| columns.resume(answer)).expect(VALID);
+        filled.map(Reply)
     }
 
     /// A raw frame offered to the devices: the start or continue that it
@@ -170,8 +173,9 @@ impl Table {
     /// # Ok::<(), moortinker::Refusal>(())
     /// ```
     pub fn offer(&mut self, frame: &[u8]) -> Result<Option<Reply>, Refusal> {
-        let columns = &mut self.columns();
-        Reply::of(|answer| columns.offer(frame, answer))
+        let mut columns = self.columns();
+        let filled = Filled::by(|answer| columns.offer(frame, answer))?;
+        Ok(filled.map(Reply))
     }
 
     /// A whole scan: a start, then continues, until the end, silence or `cap`
@@ -224,25 +228,12 @@ impl Table {
 /// # Ok::<(), moortinker::Refusal>(())
 /// ```
 #[derive(Clone, Copy, Debug, PartialEq, Eq, Hash)]
-pub struct Reply {
-    bytes: [u8; ANSWER_ROOM],
-    length: usize,
-}
+pub struct Reply(Filled<ANSWER_ROOM>);
 
 impl Reply {
-    /// What a call writes into a whole answer buffer; `None` where it writes
-    /// nothing.
-    fn of(
-        call: impl FnOnce(&mut [u8]) -> Result<usize, Refusal>,
-    ) -> Result<Option<Reply>, Refusal> {
-        let mut bytes = [0; ANSWER_ROOM];
-        let length = call(&mut bytes)?;
-        Ok((length > 0).then_some(Reply { bytes, length }))
-    }
-
     /// The bytes on the bus.
     pub fn bytes(&self) -> &[u8] {
-        &self.bytes[..self.length]
+        self.0.bytes()
     }
 }
 

@@ -1,7 +1,8 @@
 //! Each call of the C interface made on both sides: on the archive with lent
 //! buffers, and on the second implementation. Answers, outputs with their
 //! margins and inputs are compared. The calls on devices are in `board`, those
-//! on their event queues in `polls`, those on a state of listening in `hearing`.
+//! on their event queues in `polls`, those on a state of listening in `hearing`,
+//! those on Railbus packets in `railbus` and on relay devices in `relay`.
 
 use std::fmt::Debug;
 
@@ -547,7 +548,7 @@ pub fn reply_data(session: &mut Session, reply_1: &[u8], reply_2: &[u8], attempt
 
 /// Makes a call that only reads. The archive gets the input's pointer and
 /// length; the second's answer is there already.
-fn read<T: PartialEq + Debug>(
+pub fn read<T: PartialEq + Debug>(
     session: &mut Session,
     function: Function,
     input: &[u8],
@@ -567,7 +568,7 @@ fn read<T: PartialEq + Debug>(
 
 /// Makes a call that writes into an output of this length. The archive gets the
 /// input's pointer and length and the output's pointer.
-fn write(
+pub fn write(
     session: &mut Session,
     function: Function,
     input: &[u8],

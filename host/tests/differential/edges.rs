@@ -8,6 +8,7 @@ use crate::eventedges;
 use crate::hands::hear_with;
 use crate::hearing::{Hearing, MOST_USED};
 use crate::inputs::{expanded, ROOMS};
+use crate::railbusedges;
 use crate::session::Session;
 use crate::tables::Table;
 
@@ -38,6 +39,7 @@ pub fn run_all(session: &mut Session) {
     tables(session);
     scans(session);
     eventedges::run_all(session);
+    railbusedges::run_all(session);
 }
 
 /// The checks over every pair of bytes, alone, and for Modbus also at the end of

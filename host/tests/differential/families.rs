@@ -8,7 +8,9 @@ use crate::hands::in_hand;
 use crate::idle;
 use crate::inputs;
 use crate::polling;
+use crate::railbus;
 use crate::random::Random;
+use crate::relaying;
 use crate::session::Session;
 use crate::states::states;
 use crate::tables;
@@ -34,6 +36,9 @@ const FAMILIES: &[Family] = &[
     ("event frames", 45, polling::frames),
     ("event queues", 15, polling::single),
     ("polls", 55, polling::sequences),
+    ("Railbus packets", 100, railbus::packets),
+    ("relay devices", 25, relaying::single),
+    ("relay sequences", 75, relaying::sequences),
 ];
 
 /// Runs every family.

@@ -12,7 +12,7 @@ use crate::random::Random;
 const SEED: u64 = 0x000E_B052_0017;
 /// The inputs of a run that asks for no other number. A recording that both
 /// sides listen to is one input, in however many runs it is fed.
-const INPUTS: u64 = 11_000_000;
+const INPUTS: u64 = 13_000_000;
 
 /// Declares the functions of the C interface, each with the numbers that
 /// the rules and the header let it give.
@@ -69,6 +69,12 @@ functions! {
     AddEvent "moor_add_event" [0 2 13 18]
     Poll "moor_poll" [0 1 2]
     OfferPoll "moor_offer_poll" [0 1 2 13 14 15 16]
+    RailbusCheck "moor_railbus_check" [0]
+    ReadRailbus "moor_read_railbus" [0 13 14 15 16 26]
+    WriteRailbus "moor_write_railbus" [0 1 15]
+    RelayValid "moor_relay_valid" [0]
+    OfferRailbus "moor_offer_railbus" [0 1 2 13 14 15 16 26]
+    FinishRailbus "moor_finish_railbus" [0 1 2]
 }
 
 /// What an accepted answer looked like, in up to three values.
@@ -107,6 +113,28 @@ const POLLS: &[Form] = &[
     [18, 0, 1],
     [18, 1, 0],
     [18, 1, 1],
+];
+
+/// The forms of what a relay device does with a packet: the phase of what it
+/// remembers, 3 for one that there is not; the letter, 0 where the packet is for
+/// another device; and the letter of the answer, the number of an n, 0 for none.
+#[rustfmt::skip]
+const OFFERS: &[Form] = &[
+    [0, 0, 0], [0, b'I', 0], [0, b'K', 0], [0, b'N', 0],
+    [0, b'R', 7], [0, b'R', b'K'], [0, b'R', b'N'], [0, b'S', 16],
+    [0, b'W', 1], [0, b'W', 7], [0, b'W', b'N'], [0, b'n', 0],
+
+    [1, 0, 0], [1, b'I', 0], [1, b'K', 0], [1, b'N', 0],
+    [1, b'R', 7], [1, b'R', b'K'], [1, b'R', b'N'], [1, b'S', 8],
+    [1, b'W', 2], [1, b'W', 7], [1, b'W', 8], [1, b'W', b'N'], [1, b'n', 0],
+
+    [2, 0, 0], [2, b'I', 0], [2, b'K', 0], [2, b'N', 0],
+    [2, b'R', 7], [2, b'R', b'K'], [2, b'R', b'N'], [2, b'S', 16],
+    [2, b'W', 1], [2, b'W', 3], [2, b'W', 7], [2, b'W', b'N'], [2, b'n', 0],
+
+    [3, 0, 0], [3, b'I', 0], [3, b'K', 0], [3, b'N', 0],
+    [3, b'R', 7], [3, b'R', b'K'], [3, b'R', b'N'], [3, b'S', 16],
+    [3, b'W', 1], [3, b'W', 7], [3, b'W', b'N'], [3, b'n', 0],
 ];
 
 /// The forms of accepted answers that a run must have met.
@@ -162,6 +190,53 @@ const FORMS: &[(Function, &[Form])] = &[
     ),
     (Function::Poll, POLLS),
     (Function::OfferPoll, POLLS),
+    // Each letter, its checksum not examined and right.
+    (
+        Function::ReadRailbus,
+        &[
+            [b'I', 0, 0],
+            [b'I', 1, 0],
+            [b'K', 0, 0],
+            [b'K', 1, 0],
+            [b'N', 0, 0],
+            [b'N', 1, 0],
+            [b'R', 0, 0],
+            [b'R', 1, 0],
+            [b'S', 0, 0],
+            [b'S', 1, 0],
+            [b'W', 0, 0],
+            [b'W', 1, 0],
+            [b'n', 0, 0],
+            [b'n', 1, 0],
+        ],
+    ),
+    (
+        Function::WriteRailbus,
+        &[
+            [b'I', 0, 0],
+            [b'K', 0, 0],
+            [b'N', 0, 0],
+            [b'R', 0, 0],
+            [b'S', 0, 0],
+            [b'W', 0, 0],
+            [b'n', 0, 0],
+        ],
+    ),
+    (Function::RelayValid, &[[0; 3], [1, 0, 0]]),
+    (Function::OfferRailbus, OFFERS),
+    // Of every phase; a write that runs with every access byte of its register.
+    (
+        Function::FinishRailbus,
+        &[
+            [0; 3],
+            [1, 1, 0],
+            [1, 1, 1],
+            [1, 1, 2],
+            [1, 1, 3],
+            [2, 0, 0],
+            [3, 0, 0],
+        ],
+    ),
 ];
 
 /// A run of the tests.

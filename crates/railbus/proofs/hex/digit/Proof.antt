@@ -1,0 +1,20 @@
+-- `railbus::hex::digit` meets its contract. Assumes nothing.
+use borrow.Author.Needs.{needs}
+use Rattle.railbus.proofs.Spelling.{low-digit, high-digit}
+use Rattle.railbus.proofs.hex.digit.Statement.{statement}
+use Rattle.railbus.proofs.hex.digit.Tie as tie
+
+add-result : tie.Need-add-result
+add-result c = search needs
+
+returns : tie.Need-returns
+returns c = low-digit _ (c .if1 .taken)
+
+add-result-2 : tie.Need-add-result-2
+add-result-2 c = search needs
+
+returns-2 : tie.Need-returns-2
+returns-2 c = high-digit _ (c .if1 .left)
+
+pub digit-spec : {M : Type 1} → statement M
+digit-spec = tie.close (tie.spec add-result returns add-result-2 returns-2)
