@@ -77,23 +77,25 @@ AT(moor_request_read, number, 0);
 AT(moor_request_read, request, 1);
 AT(moor_request_read, place, 8);
 
-SIZE(moor_answer_read, 16);
+SIZE(moor_answer_read, 24);
 AT(moor_answer_read, number, 0);
 AT(moor_answer_read, answer, 1);
 AT(moor_answer_read, address, 2);
 AT(moor_answer_read, serial, 4);
 AT(moor_answer_read, place, 8);
+AT(moor_answer_read, skipped, 16);
 
 SIZE(moor_decided, 16);
 AT(moor_decided, key, 0);
 AT(moor_decided, dominant, 8);
 
-SIZE(moor_scanned, 32);
+SIZE(moor_scanned, 40);
 AT(moor_scanned, number, 0);
 AT(moor_scanned, end, 1);
 AT(moor_scanned, place, 8);
 AT(moor_scanned, requests, 16);
 AT(moor_scanned, found, 24);
+AT(moor_scanned, skipped, 32);
 
 SIZE(moor_event_request_read, 16);
 AT(moor_event_request_read, number, 0);
@@ -103,7 +105,7 @@ AT(moor_event_request_read, confirmed, 3);
 AT(moor_event_request_read, flag, 4);
 AT(moor_event_request_read, place, 8);
 
-SIZE(moor_events_read, 32);
+SIZE(moor_events_read, 40);
 AT(moor_events_read, number, 0);
 AT(moor_events_read, answer, 1);
 AT(moor_events_read, sender, 2);
@@ -113,6 +115,7 @@ AT(moor_events_read, size, 5);
 AT(moor_events_read, place, 8);
 AT(moor_events_read, listed, 16);
 AT(moor_events_read, first, 24);
+AT(moor_events_read, skipped, 32);
 
 SIZE(moor_event, 24);
 AT(moor_event, whole, 0);
@@ -126,7 +129,7 @@ SIZE(moor_added, 16);
 AT(moor_added, number, 0);
 AT(moor_added, place, 8);
 
-SIZE(moor_polled, 24);
+SIZE(moor_polled, 32);
 AT(moor_polled, number, 0);
 AT(moor_polled, answer, 1);
 AT(moor_polled, sender, 2);
@@ -134,6 +137,7 @@ AT(moor_polled, flag, 3);
 AT(moor_polled, events, 4);
 AT(moor_polled, place, 8);
 AT(moor_polled, length, 16);
+AT(moor_polled, skipped, 24);
 
 SIZE(moor_railbus_read, 24);
 AT(moor_railbus_read, number, 0);
@@ -1004,22 +1008,30 @@ static void read_answer(bytes frame, moor_answer_read must)
     if (got.number != MOOR_ACCEPTED)
         print_refused(got.number, got.place);
     else if (got.answer == MOOR_FOUND)
-        printf("found %08X at %02X\n", (unsigned)got.serial, got.address);
+        printf("found %08X at %02X, %zu FF\n", (unsigned)got.serial, got.address, got.skipped);
     else
-        printf("end\n");
+        printf("end, %zu FF\n", got.skipped);
     EXPECT(got.number == must.number);
     EXPECT(got.answer == must.answer);
     EXPECT(got.address == must.address);
     EXPECT(got.serial == must.serial);
     EXPECT(got.place == must.place);
+    EXPECT(got.skipped == must.skipped);
 }
 
 #define START_FRAME 0xFD, 0x46, 0x01, 0x13, 0x90
 #define CONTINUE_FRAME 0xFD, 0x46, 0x02, 0x53, 0x91
 #define END_FRAME 0xFD, 0x46, 0x04, 0xD3, 0x93
 #define FOUND_FRAME 0xFD, 0x46, 0x03, 0x00, 0x01, 0xEB, 0x37, 0x0C, 0xCE, 0xDC
+#define FF_6 0xFF, 0xFF, 0xFF, 0xFF, 0xFF, 0xFF
+#define FF_10 FF_6, 0xFF, 0xFF, 0xFF, 0xFF
+#define FF_32 FF_10, FF_10, FF_10, 0xFF, 0xFF
 #define NO_REQUEST(why, where) ((moor_request_read){.number = (why), .place = (where)})
 #define NO_ANSWER(why, where) ((moor_answer_read){.number = (why), .place = (where)})
+#define ENDED(ff) ((moor_answer_read){.answer = MOOR_END, .skipped = (ff)})
+#define FOUND_BEHIND(ff) \
+    ((moor_answer_read){ \
+        .answer = MOOR_FOUND, .address = 0x0C, .serial = 0x0001EB37, .skipped = (ff)})
 
 static void requests_read(void)
 {
@@ -1034,21 +1046,27 @@ static void requests_read(void)
     read_request(BYTES(0xFD, 0x46, 0x01, 0x13, 0x91), NO_REQUEST(MOOR_FRAME_CHECK, 3));
 }
 
+/* An answer with a fault of each kind: a byte too few, FE for FD, 47 for 46, a
+ * byte too many, a wrong check, a serial of 2^28. */
+#define SHORT_END 0xFD, 0x46, 0x04, 0xD3
+#define WRONG_FIRST 0xFE, 0x46, 0x04, 0xD3, 0x93
+#define WRONG_SECOND 0xFD, 0x47, 0x04, 0xD3, 0x93
+#define LONG_END END_FRAME, 0x00
+#define WRONG_CHECK 0xFD, 0x46, 0x04, 0xD3, 0x94
+#define SERIAL_OVER 0xFD, 0x46, 0x03, 0x10, 0x00, 0x00, 0x00, 0x01, 0xA9, 0x22
+
 static void answers_read(void)
 {
-    moor_answer_read end = {.answer = MOOR_END};
-    moor_answer_read found = {.answer = MOOR_FOUND, .address = 0x0C, .serial = 0x0001EB37};
-    read_answer(BYTES(END_FRAME), end);     /* W10 */
-    read_answer(BYTES(FOUND_FRAME), found); /* W11 */
-    read_answer(BYTES(0xFF, 0xFF, 0xFF, END_FRAME), end);
-    read_answer(BYTES(0xFF, FOUND_FRAME), found);
+    read_answer(BYTES(END_FRAME), ENDED(0));          /* W10 */
+    read_answer(BYTES(FOUND_FRAME), FOUND_BEHIND(0)); /* W11 */
+    read_answer(BYTES(0xFF, 0xFF, 0xFF, END_FRAME), ENDED(3));
+    read_answer(BYTES(0xFF, FOUND_FRAME), FOUND_BEHIND(1));
     read_answer(none, NO_ANSWER(MOOR_FRAME_LENGTH, 0));
-    read_answer(BYTES(0xFF, 0xFF, 0xFF, 0xFF, 0xFF, 0xFF), NO_ANSWER(MOOR_FRAME_LENGTH, 0));
-    read_answer(BYTES(0xFF, 0xFE, 0x46, 0x04, 0xD3, 0x93), NO_ANSWER(MOOR_FRAME_HEAD, 1));
+    read_answer(BYTES(FF_6), NO_ANSWER(MOOR_FRAME_LENGTH, 0));
+    read_answer(BYTES(0xFF, WRONG_FIRST), NO_ANSWER(MOOR_FRAME_HEAD, 1));
     read_answer(BYTES(0xFF, START_FRAME), NO_ANSWER(MOOR_SUBCOMMAND_WRONG, 3));
-    read_answer(BYTES(0xFF, 0xFD, 0x46, 0x04, 0xD3, 0x94), NO_ANSWER(MOOR_FRAME_CHECK, 4));
-    read_answer(BYTES(0xFD, 0x46, 0x03, 0x10, 0x00, 0x00, 0x00, 0x01, 0xA9, 0x22),
-                NO_ANSWER(MOOR_SERIAL_OVER, 3));
+    read_answer(BYTES(0xFF, WRONG_CHECK), NO_ANSWER(MOOR_FRAME_CHECK, 4));
+    read_answer(BYTES(SERIAL_OVER), NO_ANSWER(MOOR_SERIAL_OVER, 3));
 }
 
 static void write_request(uint8_t request, size_t room, outcome must)
@@ -1167,9 +1185,6 @@ static void contests(void)
     contest(NULL, 0, 0, 0);
 }
 
-#define FF_10 0xFF, 0xFF, 0xFF, 0xFF, 0xFF, 0xFF, 0xFF, 0xFF, 0xFF, 0xFF
-#define FF_6 0xFF, 0xFF, 0xFF, 0xFF, 0xFF, 0xFF
-
 static void start(table *t, size_t room, outcome must)
 {
     fill(out);
@@ -1279,12 +1294,14 @@ static void scanned(moor_scanned got, moor_scanned must)
     if (got.number != MOOR_ACCEPTED)
         print_refused(got.number, got.place);
     else
-        printf("end %u, %zu requests, %zu found\n", got.end, got.requests, got.found);
+        printf("end %u, %zu requests, %zu found, %zu FF\n", got.end, got.requests, got.found,
+               got.skipped);
     EXPECT(got.number == must.number);
     EXPECT(got.end == must.end);
     EXPECT(got.place == must.place);
     EXPECT(got.requests == must.requests);
     EXPECT(got.found == must.found);
+    EXPECT(got.skipped == must.skipped);
     EXPECT(listed(must.found));
 }
 
@@ -1297,29 +1314,71 @@ static void scan(table *t, size_t serials, size_t addresses, size_t cap, moor_sc
     scanned(got, must);
 }
 
-#define SCANNED(end, requests, found) \
-    ((moor_scanned){MOOR_ACCEPTED, (end), 0, (requests), (found)})
+#define SCANNED(end, requests, found, ff) \
+    ((moor_scanned){MOOR_ACCEPTED, (end), 0, (requests), (found), (ff)})
 
+/* The FF of an answer are the zero bits of the winner's key. Of 32 bits 00000005
+ * and 00000009 have two ones each, and 30 zeros. 0001EB37 has 1 + 3 + 3 + 2 + 3
+ * ones in its digits 1, E, B, 3 and 7, so 20 zeros. The end comes from the
+ * smallest key of all that are scanned, F0000005: 4 + 2 ones, 26 zeros. Together
+ * 30 + 30 + 20 + 26 = 106, and a cap takes the first of these. */
 static void scans(void)
 {
     moor_scanned output_short = {.number = MOOR_OUTPUT_SHORT};
     table t = three(0, 0, 0);
-    scan(&t, 3, 3, 100, SCANNED(MOOR_COMPLETE, 4, 3)); /* W12 */
+    scan(&t, 3, 3, 100, SCANNED(MOOR_COMPLETE, 4, 3, 106)); /* W12 */
     EXPECT(marked(&t, 1, 1, 1));
-    scan(&t, 3, 3, 3, SCANNED(MOOR_UNFINISHED, 3, 3)); /* W13 */
+    scan(&t, 3, 3, 4, SCANNED(MOOR_COMPLETE, 4, 3, 106));
     EXPECT(marked(&t, 1, 1, 1));
-    scan(&t, 4, 4, 1, SCANNED(MOOR_UNFINISHED, 1, 1));
+    scan(&t, 3, 3, 3, SCANNED(MOOR_UNFINISHED, 3, 3, 80)); /* W13 */
+    EXPECT(marked(&t, 1, 1, 1));
+    scan(&t, 3, 3, 2, SCANNED(MOOR_UNFINISHED, 2, 2, 60));
+    EXPECT(marked(&t, 0, 1, 1));
+    scan(&t, 4, 4, 1, SCANNED(MOOR_UNFINISHED, 1, 1, 30));
     EXPECT(marked(&t, 0, 1, 0));
-    scan(&t, 3, 3, 0, SCANNED(MOOR_UNFINISHED, 0, 0));
+    scan(&t, 3, 3, 0, SCANNED(MOOR_UNFINISHED, 0, 0, 0));
     EXPECT(marked(&t, 0, 1, 0));
     clear_lists();
     printf("moor_scan, no device, cap 1 -> "); /* W14 */
-    scanned(moor_scan(NO_COLUMNS, NULL, 0, NULL, 0, 1), SCANNED(MOOR_NOBODY, 1, 0));
+    scanned(moor_scan(NO_COLUMNS, NULL, 0, NULL, 0, 1), SCANNED(MOOR_NOBODY, 1, 0, 0));
+    printf("moor_scan, no device, cap 0 -> ");
+    scanned(moor_scan(NO_COLUMNS, NULL, 0, NULL, 0, 0), SCANNED(MOOR_UNFINISHED, 0, 0, 0));
     t = three(0, 2, 0);
     scan(&t, 2, 3, 100, output_short);
     scan(&t, 3, 2, 100, output_short);
     scan(&t, 3, 3, 0, (moor_scanned){.number = MOOR_TABLE_NOT_VALID});
     EXPECT(marked(&t, 0, 2, 0));
+}
+
+/* A scan of one device alone, before whose two answers so many FF must stand
+ * together. */
+static void scan_alone(uint32_t serial, size_t skipped)
+{
+    uint8_t address = 0x0C;
+    uint8_t mark = 0;
+    moor_scanned got = moor_scan(&serial, 1, &address, 1, &mark, 1, found_serials, 1,
+                                 found_addresses, 1, 100);
+    printf("moor_scan, %08X alone -> %zu requests, %zu FF\n", (unsigned)serial, got.requests,
+           got.skipped);
+    EXPECT(got.number == MOOR_ACCEPTED && got.end == MOOR_COMPLETE);
+    EXPECT(got.requests == 2 && got.found == 1 && found_serials[0] == serial);
+    EXPECT(got.skipped == skipped);
+}
+
+/* The keys with the most zero bits and the fewest. Unscanned 00000000 has 32 and
+ * scanned F0000000 28; unscanned 0FFFFFFF has 4 and scanned FFFFFFFF none. The
+ * first of these puts as many FF on the bus as the reader passes over. */
+static void most_and_fewest_fill(void)
+{
+    table t = {{0}, {0x0C}, {0}};
+    scan_alone(0, 32 + 28);
+    scan_alone(0x0FFFFFFF, 4 + 0);
+    fill(out);
+    printf("moor_start, 00000000 alone -> ");
+    moor_written got = moor_start(t.serials, 1, t.addresses, 1, t.marks, 1, out, MOOR_ANSWER_ROOM);
+    written(got, WROTE(FF_32, 0xFD, 0x46, 0x03, 0x00, 0x00, 0x00, 0x00, 0x0C, 0xA9, 0x24));
+    read_answer((bytes){out, got.length},
+                (moor_answer_read){.answer = MOOR_FOUND, .address = 0x0C, .skipped = 32});
 }
 
 /* ---- Event frames -------------------------------------------------------- */
@@ -1354,9 +1413,10 @@ static void read_events(bytes frame, moor_events_read must)
     if (got.number != MOOR_ACCEPTED)
         print_refused(got.number, got.place);
     else if (got.answer == MOOR_PACKET)
-        printf("%zu of %u events of %u, flag %u\n", got.listed, got.queued, got.sender, got.flag);
+        printf("%zu of %u events of %u, flag %u, %zu FF\n", got.listed, got.queued, got.sender,
+               got.flag, got.skipped);
     else
-        printf("no events\n");
+        printf("no events, %zu FF\n", got.skipped);
     EXPECT(got.number == must.number);
     EXPECT(got.answer == must.answer);
     EXPECT(got.sender == must.sender);
@@ -1366,11 +1426,17 @@ static void read_events(bytes frame, moor_events_read must)
     EXPECT(got.place == must.place);
     EXPECT(got.listed == must.listed);
     EXPECT(got.first == must.first);
+    EXPECT(got.skipped == must.skipped);
 }
 
 #define NO_EVENT_REQUEST(why, where) \
     ((moor_event_request_read){.number = (why), .place = (where)})
 #define NOTHING_READ(why, where) ((moor_events_read){.number = (why), .place = (where)})
+#define NO_EVENTS_BEHIND(ff) ((moor_events_read){.answer = MOOR_NO_EVENTS, .skipped = (ff)})
+/* The printed packet: its events start behind six bytes, and the FF before it. */
+#define CHANGE_BEHIND(ff)                                                            \
+    ((moor_events_read){.answer = MOOR_PACKET, .sender = 5, .flag = 1, .queued = 1,  \
+                        .size = 6, .listed = 1, .first = 6 + (ff), .skipped = (ff)})
 
 static void event_requests_read(void)
 {
@@ -1394,14 +1460,10 @@ static void event_requests_read(void)
 
 static void events_read(void)
 {
-    moor_events_read change = {.answer = MOOR_PACKET, .sender = 5, .flag = 1, .queued = 1,
-                               .size = 6, .listed = 1, .first = 6};
-    moor_events_read no_events = {.answer = MOOR_NO_EVENTS};
-    read_events(BYTES(CHANGE_FRAME), change);
-    read_events(BYTES(NO_EVENTS_FRAME), no_events);
-    read_events(BYTES(0xFF, 0xFF, 0xFF, NO_EVENTS_FRAME), no_events);
-    change.first = 8;
-    read_events(BYTES(0xFF, 0xFF, CHANGE_FRAME), change);
+    read_events(BYTES(CHANGE_FRAME), CHANGE_BEHIND(0));
+    read_events(BYTES(NO_EVENTS_FRAME), NO_EVENTS_BEHIND(0));
+    read_events(BYTES(0xFF, 0xFF, 0xFF, NO_EVENTS_FRAME), NO_EVENTS_BEHIND(3));
+    read_events(BYTES(0xFF, 0xFF, CHANGE_FRAME), CHANGE_BEHIND(2));
     read_events(BYTES(0x05, 0x46, 0x11, 0x00, 0x00, 0x00, 0x8C, 0xBD),
                 (moor_events_read){.answer = MOOR_PACKET, .sender = 5, .first = 6});
     read_events(BYTES(0x05, 0x46, 0x11, 0x00, 0x03, 0x09, 0x00, 0x0F, 0x00, 0x00, 0x01, 0x02,
@@ -1409,6 +1471,14 @@ static void events_read(void)
                 (moor_events_read){.answer = MOOR_PACKET, .sender = 5, .queued = 3, .size = 9,
                                    .listed = 2, .first = 6});
 }
+
+/* What comes back with a fault of each kind: the sender 00, the subcommand of the
+ * other form, one event listed and none queued, a wrong check. */
+#define NO_SENDER 0x00, 0x46, 0x11, 0x00, 0x00
+#define OTHER_FORM 0xFD, 0x46, 0x11, 0x00, 0x00
+#define MORE_THAN_QUEUED \
+    0x05, 0x46, 0x11, 0x00, 0x00, 0x04, 0x00, 0x0F, 0x00, 0x00, 0x7B, 0x77
+#define NO_EVENTS_WRONG_CHECK 0xFD, 0x46, 0x12, 0x52, 0x5E
 
 static void events_not_read(void)
 {
@@ -1420,15 +1490,14 @@ static void events_not_read(void)
     /* An event that would reach into the check; one listed, none queued. */
     read_events(BYTES(0x05, 0x46, 0x11, 0x00, 0x01, 0x04, 0x01, 0x0F, 0x00, 0x00, 0x7B, 0x5A),
                 NOTHING_READ(MOOR_FRAME_LENGTH, 0));
-    read_events(BYTES(0x05, 0x46, 0x11, 0x00, 0x00, 0x04, 0x00, 0x0F, 0x00, 0x00, 0x7B, 0x77),
-                NOTHING_READ(MOOR_FRAME_LENGTH, 0));
-    read_events(BYTES(0xFF, 0x00, 0x46, 0x11, 0x00, 0x00), NOTHING_READ(MOOR_FRAME_HEAD, 1));
+    read_events(BYTES(MORE_THAN_QUEUED), NOTHING_READ(MOOR_FRAME_LENGTH, 0));
+    read_events(BYTES(0xFF, NO_SENDER), NOTHING_READ(MOOR_FRAME_HEAD, 1));
     read_events(BYTES(0xFF, 0xF8, 0x46, 0x11, 0x00, 0x00), NOTHING_READ(MOOR_FRAME_HEAD, 1));
     read_events(BYTES(0xF7, 0x47, 0x11, 0x00, 0x00), NOTHING_READ(MOOR_FRAME_HEAD, 1));
-    read_events(BYTES(0xFD, 0x46, 0x11, 0x00, 0x00), NOTHING_READ(MOOR_SUBCOMMAND_WRONG, 2));
+    read_events(BYTES(OTHER_FORM), NOTHING_READ(MOOR_SUBCOMMAND_WRONG, 2));
     read_events(BYTES(0xF7, 0x46, 0x12, 0x00, 0x00), NOTHING_READ(MOOR_SUBCOMMAND_WRONG, 2));
     read_events(BYTES(EVENT_REQUEST_FRAME), NOTHING_READ(MOOR_SUBCOMMAND_WRONG, 2));
-    read_events(BYTES(0xFF, 0xFD, 0x46, 0x12, 0x52, 0x5E), NOTHING_READ(MOOR_FRAME_CHECK, 4));
+    read_events(BYTES(0xFF, NO_EVENTS_WRONG_CHECK), NOTHING_READ(MOOR_FRAME_CHECK, 4));
     read_events(BYTES(0x05, 0x46, 0x11, 0x01, 0x01, 0x06, 0x02, 0x04, 0x01, 0xD0, 0x04, 0x00,
                       0x2C, 0xAC),
                 NOTHING_READ(MOOR_FRAME_CHECK, 12));
@@ -1490,6 +1559,80 @@ static void event_frames_written(void)
                         WROTE(0xFD, 0x46, 0x10, 0x01, 0x02, 0x03, 0x04, 0x59, 0xA5));
     write_no_events(5, WROTE(NO_EVENTS_FRAME));
     write_no_events(4, REFUSED(MOOR_OUTPUT_SHORT, 0));
+}
+
+/* ---- FF before answers --------------------------------------------------- */
+
+/* The bytes behind so many FF, together at most MOST. */
+static bytes behind(size_t ff, bytes frame)
+{
+    static uint8_t input[MOST];
+    memset(input, 0xFF, ff);
+    if (frame.length > 0)
+        memcpy(input + ff, frame.start, frame.length);
+    return (bytes){input, ff + frame.length};
+}
+
+/* 32 FF are passed over and counted, and a 33rd is refused at its place. */
+static void fill_before_right_frames(void)
+{
+    bytes end = BYTES(END_FRAME);
+    bytes found = BYTES(FOUND_FRAME);
+    bytes no_events = BYTES(NO_EVENTS_FRAME);
+    bytes change = BYTES(CHANGE_FRAME);
+    for (size_t ff = 0; ff <= 32; ff++) {
+        read_answer(behind(ff, end), ENDED(ff));
+        read_answer(behind(ff, found), FOUND_BEHIND(ff));
+        read_events(behind(ff, no_events), NO_EVENTS_BEHIND(ff));
+        read_events(behind(ff, change), CHANGE_BEHIND(ff));
+    }
+    for (size_t ff = 33; ff <= 41; ff++) {
+        read_answer(behind(ff, end), NO_ANSWER(MOOR_FILL_OVER, 32));
+        read_answer(behind(ff, found), NO_ANSWER(MOOR_FILL_OVER, 32));
+        read_events(behind(ff, no_events), NOTHING_READ(MOOR_FILL_OVER, 32));
+        read_events(behind(ff, change), NOTHING_READ(MOOR_FILL_OVER, 32));
+    }
+    EXPECT(MOOR_MOST_FILL == 32);
+}
+
+/* A wrong answer: behind 32 FF its own number, whose place counts them but for
+ * that of a wrong length; behind 33 the number of these. */
+static void wrong_answer(bytes frame, uint8_t why, size_t where)
+{
+    read_answer(behind(32, frame), NO_ANSWER(why, where));
+    read_answer(behind(33, frame), NO_ANSWER(MOOR_FILL_OVER, 32));
+}
+
+static void wrong_events(bytes frame, uint8_t why, size_t where)
+{
+    read_events(behind(32, frame), NOTHING_READ(why, where));
+    read_events(behind(33, frame), NOTHING_READ(MOOR_FILL_OVER, 32));
+}
+
+/* What neither reader takes. */
+static void wrong_for_both(bytes frame, uint8_t why, size_t where)
+{
+    wrong_answer(frame, why, where);
+    wrong_events(frame, why, where);
+}
+
+static void fill_before_wrong_frames(void)
+{
+    bytes one = BYTES(0xFF);
+    read_answer(one, NO_ANSWER(MOOR_FRAME_LENGTH, 0));
+    read_events(one, NOTHING_READ(MOOR_FRAME_LENGTH, 0));
+    wrong_for_both(none, MOOR_FRAME_LENGTH, 0);
+    wrong_for_both(BYTES(SHORT_END), MOOR_FRAME_LENGTH, 0);
+    wrong_for_both(BYTES(WRONG_FIRST), MOOR_FRAME_HEAD, 32);
+    wrong_for_both(BYTES(WRONG_SECOND), MOOR_FRAME_HEAD, 33);
+    wrong_for_both(BYTES(START_FRAME), MOOR_SUBCOMMAND_WRONG, 34);
+    wrong_answer(BYTES(LONG_END), MOOR_FRAME_LENGTH, 0);
+    wrong_answer(BYTES(WRONG_CHECK), MOOR_FRAME_CHECK, 35);
+    wrong_answer(BYTES(SERIAL_OVER), MOOR_SERIAL_OVER, 35);
+    wrong_events(BYTES(NO_SENDER), MOOR_FRAME_HEAD, 32);
+    wrong_events(BYTES(OTHER_FORM), MOOR_SUBCOMMAND_WRONG, 34);
+    wrong_events(BYTES(MORE_THAN_QUEUED), MOOR_FRAME_LENGTH, 0);
+    wrong_events(BYTES(NO_EVENTS_WRONG_CHECK), MOOR_FRAME_CHECK, 35);
 }
 
 /* ---- Event queues and polls ---------------------------------------------- */
@@ -1669,9 +1812,9 @@ static void polled(moor_polled got, moor_polled must, bytes wrote)
     } else if (got.answer == 0) {
         printf("silence\n");
     } else {
-        printf("%s of %u, flag %u, %u events, %zu bytes:",
+        printf("%s of %u, flag %u, %u events, %zu bytes, %zu FF:",
                got.answer == MOOR_PACKET ? "packet" : "no events", got.sender, got.flag,
-               got.events, got.length);
+               got.events, got.length, got.skipped);
         print_bytes((bytes){out, got.length < MOST ? got.length : MOST});
         printf("\n");
     }
@@ -1682,6 +1825,7 @@ static void polled(moor_polled got, moor_polled must, bytes wrote)
     EXPECT(got.events == must.events);
     EXPECT(got.place == must.place);
     EXPECT(got.length == wrote.length);
+    EXPECT(got.skipped == must.skipped);
     EXPECT(starts(out, wrote));
 }
 
@@ -1702,9 +1846,11 @@ static void offer_poll(bytes frame, bus *b, moor_polled must, bytes wrote)
     polled(got, must, wrote);
 }
 
-#define SENT(id, which, number_of) \
-    ((moor_polled){.answer = MOOR_PACKET, .sender = (id), .flag = (which), .events = (number_of)})
-#define NOBODY_HAS(id) ((moor_polled){.answer = MOOR_NO_EVENTS, .sender = (id)})
+#define SENT(id, which, number_of, ff)                                        \
+    ((moor_polled){.answer = MOOR_PACKET, .sender = (id), .flag = (which),    \
+                   .events = (number_of), .skipped = (ff)})
+#define NOBODY_HAS(id, ff) \
+    ((moor_polled){.answer = MOOR_NO_EVENTS, .sender = (id), .skipped = (ff)})
 #define NOT_POLLED(why, where) ((moor_polled){.number = (why), .place = (where)})
 #define QUIET ((moor_polled){.number = MOOR_ACCEPTED})
 
@@ -1715,10 +1861,10 @@ static void printed_packet_polled(void)
     bus b = fresh();
     b.flags[0] = 1;
     add_event(&b, 5, 0, 0x01D0, BYTES(0x04, 0x00), MOOR_ACCEPTED);
-    offer_poll(BYTES(EVENT_REQUEST_FRAME), &b, SENT(5, 1, 1),
+    offer_poll(BYTES(EVENT_REQUEST_FRAME), &b, SENT(5, 1, 1, 9),
                BYTES(FF_6, 0xFF, 0xFF, 0xFF, CHANGE_FRAME));
     EXPECT(stands(&b, 0, 1, 1, 1));
-    poll_devices(&b, 0, 100, 5, 1, NOBODY_HAS(5), BYTES(FF_6, NO_EVENTS_FRAME));
+    poll_devices(&b, 0, 100, 5, 1, NOBODY_HAS(5, 6), BYTES(FF_6, NO_EVENTS_FRAME));
     EXPECT(stands(&b, 0, 0, 0, 0));
     EXPECT(stands(&b, 1, 0, 0, 0));
     EXPECT(stands(&b, 2, 0, 0, 0));
@@ -1742,28 +1888,29 @@ static bus waiting(void)
 #define SECOND_OF_TWO 0x05, 0x46, 0x11, 0x01, 0x01, 0x05, 0x01, 0x04, 0x00, 0x02, 0xAB, 0x98, 0xC5
 #define FF_9 FF_6, 0xFF, 0xFF, 0xFF
 
+/* Of 12 bits the key 020 has 11 zeros, and 105 has 9. */
 static void events_polled(void)
 {
     bus b = waiting();
     bytes urgent = BYTES(FF_10, 0xFF, URGENT_PACKET);
     bytes first = BYTES(FF_9, FIRST_OF_TWO);
-    poll_devices(&b, 0, 255, 0, 0, SENT(32, 0, 1), urgent);
+    poll_devices(&b, 0, 255, 0, 0, SENT(32, 0, 1, 11), urgent);
     /* It comes again until it is confirmed; with another flag it is not. */
-    poll_devices(&b, 0, 255, 32, 1, SENT(32, 0, 1), urgent);
-    poll_devices(&b, 0, 255, 32, 2, SENT(32, 0, 1), urgent);
+    poll_devices(&b, 0, 255, 32, 1, SENT(32, 0, 1, 11), urgent);
+    poll_devices(&b, 0, 255, 32, 2, SENT(32, 0, 1, 11), urgent);
     EXPECT(stands(&b, 2, 0, 1, 1));
-    poll_devices(&b, 0, 255, 32, 0, SENT(5, 0, 2), BYTES(FF_9, BOTH_OF_TWO));
+    poll_devices(&b, 0, 255, 32, 0, SENT(5, 0, 2, 9), BYTES(FF_9, BOTH_OF_TWO));
     EXPECT(stands(&b, 2, 1, 0, 0));
     /* As many as fit; what is sent again is the last packet. */
-    poll_devices(&b, 0, 9, 0, 0, SENT(5, 0, 2), BYTES(FF_9, BOTH_OF_TWO));
-    poll_devices(&b, 0, 8, 0, 0, SENT(5, 0, 1), first);
-    poll_devices(&b, 0, 4, 5, 1, SENT(5, 0, 1), first);
+    poll_devices(&b, 0, 9, 0, 0, SENT(5, 0, 2, 9), BYTES(FF_9, BOTH_OF_TWO));
+    poll_devices(&b, 0, 8, 0, 0, SENT(5, 0, 1, 9), first);
+    poll_devices(&b, 0, 4, 5, 1, SENT(5, 0, 1, 9), first);
     EXPECT(stands(&b, 0, 0, 1, 2));
-    poll_devices(&b, 0, 8, 5, 0, SENT(5, 1, 1), BYTES(FF_9, SECOND_OF_TWO));
+    poll_devices(&b, 0, 8, 5, 0, SENT(5, 1, 1, 9), BYTES(FF_9, SECOND_OF_TWO));
     EXPECT(stands(&b, 0, 1, 1, 1));
     EXPECT(slot_starts(&b, 0, 0, BYTES(0, 1, 4, 0x00, 0x02, 0xAB)));
     /* The first packet was confirmed: no flag but 1 confirms now. */
-    poll_devices(&b, 0, 8, 5, 0, SENT(5, 1, 1), BYTES(FF_9, SECOND_OF_TWO));
+    poll_devices(&b, 0, 8, 5, 0, SENT(5, 1, 1, 9), BYTES(FF_9, SECOND_OF_TWO));
     EXPECT(stands(&b, 0, 1, 1, 1));
 }
 
@@ -1773,20 +1920,20 @@ static void devices_that_do_not_answer(void)
     bytes nobody_10 = BYTES(FF_6, NO_EVENTS_FRAME); /* F0A */
     /* Below the minimum; nothing that fits; both. */
     poll_devices(&b, 33, 255, 0, 0, QUIET, none);
-    poll_devices(&b, 6, 255, 0, 0, SENT(32, 0, 1), BYTES(FF_10, 0xFF, URGENT_PACKET));
-    poll_devices(&b, 0, 4, 0, 0, SENT(5, 0, 1), BYTES(FF_9, FIRST_OF_TWO));
-    poll_devices(&b, 0, 3, 0, 0, NOBODY_HAS(10), nobody_10);
+    poll_devices(&b, 6, 255, 0, 0, SENT(32, 0, 1, 11), BYTES(FF_10, 0xFF, URGENT_PACKET));
+    poll_devices(&b, 0, 4, 0, 0, SENT(5, 0, 1, 9), BYTES(FF_9, FIRST_OF_TWO));
+    poll_devices(&b, 0, 3, 0, 0, NOBODY_HAS(10, 6), nobody_10);
     poll_devices(&b, 11, 4, 0, 0, QUIET, none);
     EXPECT(stands(&b, 0, 0, 1, 2));
     EXPECT(stands(&b, 2, 0, 1, 1));
     /* A confirmation reaches those below the minimum, and comes before silence. */
     poll_devices(&b, 33, 0, 32, 0, QUIET, none);
     EXPECT(stands(&b, 2, 1, 0, 0));
-    poll_devices(&b, 6, 0, 5, 0, NOBODY_HAS(10), nobody_10);
+    poll_devices(&b, 6, 0, 5, 0, NOBODY_HAS(10, 6), nobody_10);
     EXPECT(stands(&b, 0, 1, 0, 1));
     /* Nothing was sent since: nothing is confirmed. */
-    poll_devices(&b, 6, 0, 5, 1, NOBODY_HAS(10), nobody_10);
-    poll_devices(&b, 6, 0, 5, 0, NOBODY_HAS(10), nobody_10);
+    poll_devices(&b, 6, 0, 5, 1, NOBODY_HAS(10, 6), nobody_10);
+    poll_devices(&b, 6, 0, 5, 0, NOBODY_HAS(10, 6), nobody_10);
     EXPECT(stands(&b, 0, 1, 0, 1));
     fill(out);
     printf("moor_poll, no device -> ");
@@ -1809,8 +1956,10 @@ static void full_queue_polled(void)
     printf("moor_poll, a full queue -> %zu bytes\n", got.length);
     EXPECT(got.number == MOOR_ACCEPTED && got.answer == MOOR_PACKET);
     EXPECT(got.events == MOOR_MOST_QUEUED && got.length == 11 + 6 + 96 + 2);
+    EXPECT(got.skipped == 11); /* 020 */
     moor_events_read read = moor_read_events(out, got.length);
     EXPECT(read.answer == MOOR_PACKET && read.listed == MOOR_MOST_QUEUED && read.first == 17);
+    EXPECT(read.skipped == 11);
     size_t at = read.first;
     for (uint16_t i = 0; i < MOOR_MOST_QUEUED; i++) {
         moor_event event = moor_event_at(out, got.length, at);
@@ -1866,8 +2015,9 @@ static void polls_between_scans(void)
     moor_scanned got = moor_scan(COLUMNS(b), found_serials, 3, found_addresses, 3, 100);
     printf("moor_scan, events queued -> end %u, %zu requests\n", got.end, got.requests);
     EXPECT(got.end == MOOR_COMPLETE && got.requests == 4);
+    EXPECT(got.skipped == 30 + 29 + 30 + 26); /* 5, 7, 9, F0000005 */
     EXPECT(stands(&b, 0, 0, 0, 2) && stands(&b, 2, 0, 0, 1));
-    poll_devices(&b, 0, 255, 0, 0, SENT(32, 0, 1), BYTES(FF_10, 0xFF, URGENT_PACKET));
+    poll_devices(&b, 0, 255, 0, 0, SENT(32, 0, 1, 11), BYTES(FF_10, 0xFF, URGENT_PACKET));
     EXPECT(b.marks[0] == 1 && b.marks[1] == 1 && b.marks[2] == 1);
 }
 
@@ -2361,11 +2511,14 @@ int main(void)
     requests_refused();
     silence();
     scans();
+    most_and_fewest_fill();
     event_requests_read();
     events_read();
     events_not_read();
     events_at();
     event_frames_written();
+    fill_before_right_frames();
+    fill_before_wrong_frames();
     tables_of_queues();
     entries_of_queues();
     events_added();

@@ -91,6 +91,8 @@ extern "C" {
                                      its first byte */
 #define MOOR_SERIAL_OVER       17 /* serial 2^28 or more; place: its first byte */
 #define MOOR_QUEUE_FULL        18 /* the event queue of a device is full; place: 0 */
+#define MOOR_FILL_OVER         19 /* more than 32 FF before an answer; place: the
+                                     33rd, which is 32 */
 #define MOOR_DIGIT_WRONG       26 /* no upper-case hex digit where one is due in a
                                      Railbus packet; place: the character */
 
@@ -126,6 +128,7 @@ extern "C" {
 #define MOOR_COMMAND_WIRE  41 /* the longest command on the wire */
 #define MOOR_REPLY_WIRE    35 /* the longest reply on the wire */
 #define MOOR_MOST_DEVICES 247 /* the largest device table */
+#define MOOR_MOST_FILL     32 /* the most FF before an answer */
 
 /* Event queues. */
 #define MOOR_MOST_QUEUED    8 /* the most events that a device has queued */
@@ -245,13 +248,14 @@ typedef struct {
 } moor_request_read;
 
 /* An answer frame read: MOOR_FOUND with serial and address, or MOOR_END with
- * both 0. */
+ * both 0; and how many FF were passed over before it. */
 typedef struct {
     uint8_t number;
     uint8_t answer;
     uint8_t address;
     uint32_t serial;
     size_t place;
+    size_t skipped;
 } moor_answer_read;
 
 /* What a contest gives: the key that remains, and how many windows were
@@ -261,14 +265,16 @@ typedef struct {
     size_t dominant;
 } moor_decided;
 
-/* A whole scan: MOOR_COMPLETE and so on, the requests sent, and how many
- * devices were heard, which is how many entries the two lists start with. */
+/* A whole scan: MOOR_COMPLETE and so on, the requests sent, how many devices
+ * were heard, which is how many entries the two lists start with, and how many
+ * FF stood before all its answers together, the end's included. */
 typedef struct {
     uint8_t number;
     uint8_t end;
     size_t place;
     size_t requests;
     size_t found;
+    size_t skipped;
 } moor_scanned;
 
 /* An event request read: the smallest id that may answer, the most bytes of
@@ -285,7 +291,7 @@ typedef struct {
 /* What came back for an event request: MOOR_PACKET with its sender, its flag,
  * how many events are queued and how many it lists, where the first of those
  * stands in the input and how many bytes they have; or MOOR_NO_EVENTS, with all
- * of these 0. */
+ * of these 0. With both, how many FF were passed over before the frame. */
 typedef struct {
     uint8_t number;
     uint8_t answer;
@@ -296,6 +302,7 @@ typedef struct {
     size_t place;
     size_t listed;
     size_t first;
+    size_t skipped;
 } moor_events_read;
 
 /* One event: its type and its identifier, where its `size` data bytes start in
@@ -318,7 +325,8 @@ typedef struct {
 
 /* What a poll gives: MOOR_PACKET with its sender's id, its flag and how many
  * events it lists; MOOR_NO_EVENTS with the id of the device that says so; or 0,
- * silence, with length 0. */
+ * silence, with length 0. `skipped` is how many FF the answer begins with, of
+ * silence 0. */
 typedef struct {
     uint8_t number;
     uint8_t answer;
@@ -327,6 +335,7 @@ typedef struct {
     uint8_t events;
     size_t place;
     size_t length;
+    size_t skipped;
 } moor_polled;
 
 /* A Railbus packet that was read: its letter ('R', 'W', 'S', 'K', 'I', 'N' or
@@ -557,11 +566,13 @@ moor_part moor_reply_data(const uint8_t *reply_1, size_t reply_1_length,
  *   MOOR_FRAME_CHECK. */
 moor_request_read moor_read_request(const uint8_t *input, size_t input_length);
 
-/* What an answer frame says; any number of leading FF is passed over, and the
- * frame must fill the rest. The address is reported as sent, any byte.
+/* What an answer frame says; up to MOOR_MOST_FILL leading FF are passed over
+ * and counted, and the frame must fill the rest. The address is reported as
+ * sent, any byte.
  *
  * Refuses (places count the leading FF, but for MOOR_FRAME_LENGTH, whose place
  * is 0) with
+ *   MOOR_FILL_OVER         if there is one FF more;
  *   MOOR_FRAME_LENGTH      if fewer than 5 bytes are left;
  *   MOOR_FRAME_HEAD;
  *   MOOR_SUBCOMMAND_WRONG  if it is neither 03 nor 04;
@@ -648,6 +659,8 @@ moor_written moor_offer(const uint8_t *frame, size_t frame_length,
  * at least 1, is complete after n + 1 requests; of none it ends with MOOR_NOBODY
  * after 1. With cap 0 nothing is sent and nothing changes (MOOR_UNFINISHED, 0
  * requests). MOOR_UNFINISHED leaves lists and marks as after that many requests.
+ * `skipped` counts the FF of every answer heard, one for each window that was
+ * dominant in its contest, so at most MOOR_MOST_FILL for each request.
  *
  * Refuses with
  *   MOOR_OUTPUT_SHORT     if a list is shorter than the serial column;
@@ -681,14 +694,15 @@ moor_written moor_write_event_request(uint8_t minimum, uint8_t most,
                                       uint8_t confirmed, uint8_t flag,
                                       uint8_t *out, size_t out_length);
 
-/* What came back for an event request; any number of leading FF is passed
- * over, and the frame must fill the rest. A packet begins with its sender's id,
- * 1 to 247; that nobody has events, with FD. A packet's events stay where they
- * are: moor_event_at takes them apart, from `first` on, `listed` times. Flag and
- * number queued are reported as sent.
+/* What came back for an event request; up to MOOR_MOST_FILL leading FF are
+ * passed over and counted, and the frame must fill the rest. A packet begins
+ * with its sender's id, 1 to 247; that nobody has events, with FD. A packet's
+ * events stay where they are: moor_event_at takes them apart, from `first` on,
+ * `listed` times. Flag and number queued are reported as sent.
  *
  * Refuses (places count the leading FF, but for MOOR_FRAME_LENGTH, whose place
  * is 0) with
+ *   MOOR_FILL_OVER         if there is one FF more;
  *   MOOR_FRAME_LENGTH      if fewer than 5 bytes are left;
  *   MOOR_FRAME_HEAD        if the first byte is neither FD nor an id, or the
  *                          second is not 46;

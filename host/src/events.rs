@@ -19,7 +19,7 @@
 //!
 //! let first = Request { minimum: 0, most: 100, confirmed: 0, flag: 0 };
 //! let reply = queues.poll(&table, first)?.expect("a table with devices answers");
-//! let Answer::Packet(packet) = read_answer(reply.bytes())? else {
+//! let Answer::Packet(packet) = read_answer(reply.bytes())?.answer else {
 //!     unreachable!("device 5 has an event");
 //! };
 //! assert_eq!((packet.sender(), packet.flag(), packet.queued()), (0x05, 0, 1));
@@ -27,7 +27,7 @@
 //!
 //! let confirming = Request { confirmed: packet.sender(), flag: packet.flag(), ..first };
 //! let reply = queues.poll(&table, confirming)?.expect("a table with devices answers");
-//! assert_eq!(read_answer(reply.bytes())?, Answer::NoEvents);
+//! assert_eq!(read_answer(reply.bytes())?.answer, Answer::NoEvents);
 //! # Ok::<(), moortinker::Refusal>(())
 //! ```
 
@@ -40,7 +40,7 @@ mod queues;
 pub use columns::{Columns, Polled, Sent};
 pub use frames::{
     event_at, read_answer, read_request, write_no_events, write_request, Answer, Event, Events,
-    Packet, Request,
+    Heard, Packet, Request,
 };
 pub use queues::{Queues, Reply};
 

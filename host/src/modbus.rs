@@ -23,6 +23,23 @@ pub const SHORT_FRAME: usize = 5;
 /// ```
 pub const FOUND_FRAME: usize = 10;
 
+/// The most FF that a reader passes over before an answer. No contest puts more
+/// on the bus.
+///
+/// ```
+/// use moortinker::modbus::{read_answer, MOST_FILL};
+/// use moortinker::Reason;
+///
+/// let mut input = vec![0xFF; MOST_FILL];
+/// input.extend([0xFD, 0x46, 0x04, 0xD3, 0x93]);
+/// assert_eq!(read_answer(&input)?.skipped, MOST_FILL);
+/// input.insert(0, 0xFF);
+/// let refusal = read_answer(&input).unwrap_err();
+/// assert_eq!((refusal.reason(), refusal.place()), (Reason::FillOver, MOST_FILL));
+/// # Ok::<(), moortinker::Refusal>(())
+/// ```
+pub const MOST_FILL: usize = sys::MOOR_MOST_FILL;
+
 /// The Modbus check of the bytes. It is sent low byte first.
 ///
 /// ```
@@ -83,7 +100,8 @@ impl Request {
 /// let answer = Answer::Found { serial: 0x0001EB37, address: 0x0C };
 /// let mut frame = [0; 10];
 /// assert_eq!(write_answer(answer, &mut frame), Ok(10));
-/// assert_eq!(read_answer(&frame), Ok(answer));
+/// assert_eq!(read_answer(&frame)?.answer, answer);
+/// # Ok::<(), moortinker::Refusal>(())
 /// ```
 #[derive(Clone, Copy, Debug, PartialEq, Eq, Hash)]
 pub enum Answer {
@@ -96,6 +114,22 @@ pub enum Answer {
     },
     /// The scan is at its end: every device is marked as scanned.
     End,
+}
+
+/// An answer that was read. [`read_answer`] gives it.
+///
+/// ```
+/// use moortinker::modbus::{read_answer, Answer, Heard};
+///
+/// let heard = read_answer(&[0xFF, 0xFF, 0xFD, 0x46, 0x04, 0xD3, 0x93]);
+/// assert_eq!(heard, Ok(Heard { answer: Answer::End, skipped: 2 }));
+/// ```
+#[derive(Clone, Copy, Debug, PartialEq, Eq, Hash)]
+pub struct Heard {
+    /// The answer.
+    pub answer: Answer,
+    /// How many FF were passed over before it, at most [`MOST_FILL`].
+    pub skipped: usize,
 }
 
 /// What a request frame asks. The frame must fill the input.
@@ -127,10 +161,11 @@ pub fn read_request(input: &[u8]) -> Result<Request, Refusal> {
     }
 }
 
-/// What an answer frame says. Any number of leading FF is passed over, and the
-/// frame must fill the rest.
+/// What an answer frame says. Up to [`MOST_FILL`] leading FF are passed over and
+/// counted, and the frame must fill the rest.
 ///
-/// Refuses as [`read_request`] does (the length is 10 for a device found, 5 for
+/// Refuses with [`FillOver`](crate::Reason::FillOver) where there is one FF more,
+/// then as [`read_request`] does (the length is 10 for a device found, 5 for
 /// the end), and last with [`SerialOver`](crate::Reason::SerialOver). Places
 /// count the leading FF; that of [`FrameLength`](crate::Reason::FrameLength) is 0.
 ///
@@ -140,25 +175,33 @@ pub fn read_request(input: &[u8]) -> Result<Request, Refusal> {
 /// use moortinker::modbus::{read_answer, Answer};
 /// use moortinker::Reason;
 ///
-/// assert_eq!(read_answer(&[0xFF, 0xFF, 0xFD, 0x46, 0x04, 0xD3, 0x93]), Ok(Answer::End));
-/// assert_eq!(
-///     read_answer(&[0xFD, 0x46, 0x03, 0x00, 0x01, 0xEB, 0x37, 0x0C, 0xCE, 0xDC]),
-///     Ok(Answer::Found { serial: 0x0001EB37, address: 0x0C })
-/// );
+/// let heard = read_answer(&[0xFF, 0xFF, 0xFD, 0x46, 0x04, 0xD3, 0x93])?;
+/// assert_eq!((heard.answer, heard.skipped), (Answer::End, 2));
+/// let heard = read_answer(&[0xFD, 0x46, 0x03, 0x00, 0x01, 0xEB, 0x37, 0x0C, 0xCE, 0xDC])?;
+/// assert_eq!(heard.answer, Answer::Found { serial: 0x0001EB37, address: 0x0C });
+/// assert_eq!(heard.skipped, 0);
+///
 /// let refusal = read_answer(&[0xFF, 0xFD, 0x46, 0x04, 0xD3, 0x94]).unwrap_err();
 /// assert_eq!((refusal.reason(), refusal.place()), (Reason::FrameCheck, 4));
+/// let refusal = read_answer(&[0xFF; 32]).unwrap_err();
+/// assert_eq!((refusal.reason(), refusal.place()), (Reason::FrameLength, 0));
+/// let refusal = read_answer(&[0xFF; 33]).unwrap_err();
+/// assert_eq!((refusal.reason(), refusal.place()), (Reason::FillOver, 32));
+/// # Ok::<(), moortinker::Refusal>(())
 /// ```
-pub fn read_answer(input: &[u8]) -> Result<Answer, Refusal> {
+pub fn read_answer(input: &[u8]) -> Result<Heard, Refusal> {
     let read = call::read_answer(input);
     Refusal::check(read.number, read.place)?;
-    match read.answer {
-        sys::MOOR_FOUND => Ok(Answer::Found {
+    let answer = match read.answer {
+        sys::MOOR_FOUND => Answer::Found {
             serial: read.serial,
             address: read.address,
-        }),
-        sys::MOOR_END => Ok(Answer::End),
+        },
+        sys::MOOR_END => Answer::End,
         _ => unreachable!("libmoortinker.a reads one of two answers"),
-    }
+    };
+    let skipped = read.skipped;
+    Ok(Heard { answer, skipped })
 }
 
 /// Writes a request frame, and gives its length. Refuses only with

@@ -110,6 +110,8 @@ reasons! {
         SerialOver = 17, "the serial is 2^28 or more";
         /// The event queue of a device is full.
         QueueFull = 18, "the event queue is full";
+        /// More than 32 FF stand before an answer. The place is that of the 33rd.
+        FillOver = 19, "more than 32 FF stand before the answer";
         /// A character of a Railbus packet that is no upper-case hex digit where
         /// one is due.
         DigitWrong = 26, "no upper-case hex digit where one is due";

@@ -71,6 +71,8 @@ pub const MOOR_FRAME_CHECK: u8 = 16;
 pub const MOOR_SERIAL_OVER: u8 = 17;
 /// The event queue of a device is full.
 pub const MOOR_QUEUE_FULL: u8 = 18;
+/// More than 32 FF before an answer.
+pub const MOOR_FILL_OVER: u8 = 19;
 /// A character of a Railbus packet that is no upper-case hex digit where one is
 /// due.
 pub const MOOR_DIGIT_WRONG: u8 = 26;
@@ -118,6 +120,8 @@ pub const MOOR_COMMAND_WIRE: usize = 41;
 pub const MOOR_REPLY_WIRE: usize = 35;
 /// The largest device table.
 pub const MOOR_MOST_DEVICES: usize = 247;
+/// The most FF before an answer.
+pub const MOOR_MOST_FILL: usize = 32;
 
 /// The most events that a device has queued.
 pub const MOOR_MOST_QUEUED: usize = 8;
@@ -314,6 +318,8 @@ pub struct AnswerRead {
     pub serial: u32,
     /// The place of the refusal.
     pub place: usize,
+    /// How many FF were passed over before the frame.
+    pub skipped: usize,
 }
 
 /// What a contest gives.
@@ -340,6 +346,8 @@ pub struct Scanned {
     pub requests: usize,
     /// How many devices were heard.
     pub found: usize,
+    /// How many FF stood before all its answers together, the end's included.
+    pub skipped: usize,
 }
 
 /// An event request read.
@@ -382,6 +390,8 @@ pub struct EventsRead {
     pub listed: usize,
     /// Where in the input the first of them stands.
     pub first: usize,
+    /// How many FF were passed over before the frame.
+    pub skipped: usize,
 }
 
 /// One event.
@@ -430,6 +440,8 @@ pub struct Polled {
     pub place: usize,
     /// How many bytes stand at the start of the answer buffer.
     pub length: usize,
+    /// How many FF the answer begins with, of silence 0.
+    pub skipped: usize,
 }
 
 /// A Railbus packet read.
@@ -859,18 +871,21 @@ mod tests {
         closed: Closed 152 8 { judged 0 state 24 }
         part: Part 24 8 { attempt 0 start 8 length 16 }
         request_read: RequestRead 16 8 { number 0 request 1 place 8 }
-        answer_read: AnswerRead 16 8 { number 0 answer 1 address 2 serial 4 place 8 }
+        answer_read: AnswerRead 24 8 { number 0 answer 1 address 2 serial 4 place 8 skipped 16 }
         decided: Decided 16 8 { key 0 dominant 8 }
-        scanned: Scanned 32 8 { number 0 end 1 place 8 requests 16 found 24 }
+        scanned: Scanned 40 8 { number 0 end 1 place 8 requests 16 found 24 skipped 32 }
         event_request_read: EventRequestRead 16 8 {
             number 0 minimum 1 most 2 confirmed 3 flag 4 place 8
         }
-        events_read: EventsRead 32 8 {
+        events_read: EventsRead 40 8 {
             number 0 answer 1 sender 2 flag 3 queued 4 size 5 place 8 listed 16 first 24
+            skipped 32
         }
         event: Event 24 8 { whole 0 kind 1 size 2 identifier 4 start 8 next 16 }
         added: Added 16 8 { number 0 place 8 }
-        polled: Polled 24 8 { number 0 answer 1 sender 2 flag 3 events 4 place 8 length 16 }
+        polled: Polled 32 8 {
+            number 0 answer 1 sender 2 flag 3 events 4 place 8 length 16 skipped 24
+        }
         railbus_read: RailbusRead 24 8 {
             number 0 letter 1 address 2 reg 3 checked 4 data 8 place 16
         }

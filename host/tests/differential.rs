@@ -1,7 +1,8 @@
 //! The archive held against the second implementation, input by input: answers,
 //! refusals with their places, and everything that was lent, with what lies
 //! around it. Its listener, fed in runs, is also held against its own judge of
-//! the whole.
+//! the whole, its readers of answers against what they say of a frame without its
+//! FF, and its scans against the same requests one by one.
 //!
 //! `MOORTINKER_SEED` names another seed than the fixed one, decimal or 0x hex,
 //! and `MOORTINKER_INPUTS` another number of random inputs.
@@ -22,6 +23,8 @@ mod eventedges;
 mod eventframes;
 #[path = "differential/families.rs"]
 mod families;
+#[path = "differential/fill.rs"]
+mod fill;
 #[path = "differential/hands.rs"]
 mod hands;
 #[path = "differential/hearing.rs"]
@@ -57,16 +60,20 @@ mod states;
 #[path = "differential/tables.rs"]
 mod tables;
 
-use std::collections::BTreeSet;
+use std::collections::{BTreeMap, BTreeSet};
 use std::fmt::Debug;
 use std::panic::{catch_unwind, AssertUnwindSafe};
 
+use calls::{NO_ANSWER_READ, NO_EVENTS_READ};
 use hearing::settled;
 use lent::{Lent, MARGIN};
 use moortinker::sys;
+use polls::SILENCE;
 use random::Random;
 use relay::{laid_out, remembered, Device};
+use second::events::read_events;
 use second::exchange::judge;
+use second::frames::read_answer;
 use session::{same, Function, Session};
 
 #[test]
@@ -94,6 +101,57 @@ fn idle_time_reaches_every_number() {
     }
     let reached: Vec<u8> = numbers.into_iter().collect();
     assert_eq!(reached, [0, 3, 4, 5, 6, 7, 8, 9, 10, 11, 12]);
+}
+
+#[test]
+fn fill_reaches_every_number_and_both_sides_of_its_edge() {
+    assert_fill_reaches(&[0, 13, 14, 15, 16, 17, 19], inputs::frame, |input| {
+        read_answer(input).map_or_else(|refusal| refusal.number, |_| 0)
+    });
+    assert_fill_reaches(&[0, 13, 14, 15, 16, 19], eventframes::sent_back, |input| {
+        read_events(input).map_or_else(|refusal| refusal.number, |_| 0)
+    });
+}
+
+/// Frames behind FF give exactly these numbers; they stand behind every number of
+/// FF to 40, behind thousands, and often behind those at the edge.
+fn assert_fill_reaches(
+    due: &[u8],
+    frame: fn(&mut Random) -> Vec<u8>,
+    number: impl Fn(&[u8]) -> u8,
+) {
+    let mut random = Random::new(7);
+    let mut numbers = BTreeSet::new();
+    let mut met = BTreeMap::new();
+    for _ in 0..20_000 {
+        let (fills, behind) = fill::drawn(&mut random, frame);
+        for fill in fills {
+            *met.entry(fill.min(1000)).or_insert(0) += 1;
+            if fill > 0 {
+                let input = [&vec![0xFF; fill][..], &behind].concat();
+                numbers.insert(number(&input));
+            }
+        }
+    }
+    assert!(numbers.iter().eq(due), "{numbers:?}");
+    assert!(met.keys().copied().eq((0..=40).chain([1000])), "{met:?}");
+    assert!([31, 32, 33].iter().all(|fill| met[fill] > 8_000), "{met:?}");
+}
+
+#[test]
+fn what_stands_behind_more_ff_is_told_of_the_frame_alone() {
+    // Frames that have one FF before them already.
+    let told = [(0, 0, 1), (13, 0, 0), (16, 4, 0)];
+    for (fill, due) in [
+        (0, told),
+        (1, [(0, 0, 2), (13, 0, 0), (16, 5, 0)]),
+        (31, [(0, 0, 32), (13, 0, 0), (16, 35, 0)]),
+        (32, [(19, 32, 0); 3]),
+        (1000, [(19, 32, 0); 3]),
+    ] {
+        let behind = told.map(|told| fill::due_behind(told, fill, 1 + fill));
+        assert_eq!(behind, due);
+    }
 }
 
 #[test]
@@ -162,6 +220,39 @@ fn a_changed_answer_is_a_difference() {
         sys::Judged { read: 12, ..answer },
     ];
     assert_each_differs(answer, &changed);
+}
+
+#[test]
+fn a_changed_count_of_ff_is_a_difference() {
+    let answer = |skipped| sys::AnswerRead {
+        answer: sys::MOOR_END,
+        skipped,
+        ..NO_ANSWER_READ
+    };
+    assert_each_differs(answer(26), &[0, 25, 27].map(answer));
+    let events = |skipped| sys::EventsRead {
+        answer: sys::MOOR_NO_EVENTS,
+        skipped,
+        ..NO_EVENTS_READ
+    };
+    assert_each_differs(events(6), &[0, 5, 7].map(events));
+    let polled = |skipped| sys::Polled {
+        answer: sys::MOOR_NO_EVENTS,
+        length: 11,
+        skipped,
+        ..SILENCE
+    };
+    assert_each_differs(polled(6), &[0, 5, 11].map(polled));
+    // The whole sum, that without the end, and the first answer's alone.
+    let scanned = |skipped| sys::Scanned {
+        number: 0,
+        end: sys::MOOR_COMPLETE,
+        place: 0,
+        requests: 4,
+        found: 3,
+        skipped,
+    };
+    assert_each_differs(scanned(106), &[80, 30].map(scanned));
 }
 
 #[test]

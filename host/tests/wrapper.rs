@@ -17,7 +17,7 @@ use moortinker::events::{
     self, Event, Polled, Queues, Sent, MOST_DATA, MOST_QUEUED, POLL_ROOM, REQUEST_FRAME,
     SLOTS_LENGTH, SLOT_LENGTH,
 };
-use moortinker::modbus::{self, Answer, Request};
+use moortinker::modbus::{self, Answer, Request, MOST_FILL};
 use moortinker::{sys, Reason, Refusal};
 
 /// What lent outputs hold before a call.
@@ -55,6 +55,22 @@ type Named = (u8, usize);
 fn refused<T: Debug>(result: Result<T, Refusal>) -> Named {
     let refusal = result.unwrap_err();
     (refusal.number(), refusal.place())
+}
+
+/// An answer behind so many FF.
+fn answered(answer: Answer, skipped: usize) -> Result<modbus::Heard, Refusal> {
+    Ok(modbus::Heard { answer, skipped })
+}
+
+/// What came back behind so many FF that nobody has events.
+fn nothing_back(skipped: usize) -> Result<events::Heard<'static>, Refusal> {
+    let answer = events::Answer::NoEvents;
+    Ok(events::Heard { answer, skipped })
+}
+
+/// So many FF, and a frame behind them.
+fn behind_fill(fill: usize, frame: &[u8]) -> Vec<u8> {
+    [&vec![0xFF; fill][..], frame].concat()
 }
 
 /// The command of W7, with other data.
@@ -109,12 +125,12 @@ fn w9_to_w11() {
     assert_eq!(Request::Continue.frame(), CONTINUE);
     assert_eq!(modbus::read_request(&START), Ok(Request::Start));
     assert_eq!(modbus::read_request(&CONTINUE), Ok(Request::Continue));
-    assert_eq!(modbus::read_answer(&END), Ok(Answer::End));
+    assert_eq!(modbus::read_answer(&END), answered(Answer::End, 0));
     let found = Answer::Found {
         serial: 0x0001EB37,
         address: 0x0C,
     };
-    assert_eq!(modbus::read_answer(&FOUND), Ok(found));
+    assert_eq!(modbus::read_answer(&FOUND), answered(found, 0));
     let mut out = [FILL; 12];
     assert_eq!(modbus::write_answer(found, &mut out), Ok(10));
     assert_eq!((&out[..10], &out[10..]), (&FOUND[..], &[FILL; 2][..]));
@@ -968,37 +984,60 @@ fn requests_refused() {
     }
 }
 
+/// Number and place of a frame behind so many FF: places count them, but for
+/// that of 13, and more than 32 are refused at the 33rd before all else.
+fn named_behind(fill: usize, (number, place): Named) -> Named {
+    match number {
+        _ if fill > 32 => (19, 32),
+        13 => (13, 0),
+        _ => (number, place + fill),
+    }
+}
+
 #[test]
 fn answers_refused() {
-    let cases: [(&[u8], Named); 9] = [
+    let cases: [(&[u8], Named); 8] = [
         (&[], (13, 0)),
-        (&[0xFF; 40], (13, 0)),
-        (&[0xFF, 0xFF, 0xFE, 0x46, 0x04, 0xD3, 0x93], (14, 2)),
-        (&[0xFF, 0xFD, 0x47, 0x04, 0xD3, 0x93], (14, 2)),
+        (&[0xFE, 0x46, 0x04, 0xD3, 0x93], (14, 0)),
+        (&[0xFD, 0x47, 0x04, 0xD3, 0x93], (14, 1)),
         (&START, (15, 2)),
         (&FOUND[..9], (13, 0)),
-        (&[0xFF, 0xFD, 0x46, 0x04, 0xD3, 0x94], (16, 4)),
+        (&[0xFD, 0x46, 0x04, 0xD3, 0x94], (16, 3)),
         (
             &[0xFD, 0x46, 0x03, 0x00, 0x01, 0xEB, 0x37, 0x0C, 0xCE, 0xDD],
             (16, 8),
         ),
         (
-            &[
-                0xFF, 0xFD, 0x46, 0x03, 0x10, 0x00, 0x00, 0x00, 0x01, 0xA9, 0x22,
-            ],
-            (17, 4),
+            &[0xFD, 0x46, 0x03, 0x10, 0x00, 0x00, 0x00, 0x01, 0xA9, 0x22],
+            (17, 3),
         ),
     ];
     for (frame, refusal) in cases {
-        assert_eq!(refused(modbus::read_answer(frame)), refusal);
+        for fill in [0, 1, 2, 31, 32, 33, 34, 1000] {
+            let read = modbus::read_answer(&behind_fill(fill, frame));
+            assert_eq!(refused(read), named_behind(fill, refusal), "{fill} FF");
+        }
     }
 }
 
 #[test]
-fn any_number_of_leading_ff_is_passed_over() {
-    for count in [0, 1, 32, 33, 1000] {
-        let input = [vec![0xFF; count], END.to_vec()].concat();
-        assert_eq!(modbus::read_answer(&input), Ok(Answer::End));
+fn at_most_32_leading_ff_are_passed_over_and_counted() {
+    assert_eq!(MOST_FILL, 32);
+    let found = Answer::Found {
+        serial: 0x0001EB37,
+        address: 0x0C,
+    };
+    for fill in 0..=32 {
+        let end = modbus::read_answer(&behind_fill(fill, &END));
+        assert_eq!(end, answered(Answer::End, fill));
+        let device = modbus::read_answer(&behind_fill(fill, &FOUND));
+        assert_eq!(device, answered(found, fill));
+    }
+    for fill in [33, 34, 41, 1000] {
+        for frame in [&END[..], &FOUND, &[]] {
+            let read = modbus::read_answer(&behind_fill(fill, frame));
+            assert_eq!(refused(read), (19, 32));
+        }
     }
 }
 
@@ -1020,10 +1059,8 @@ fn writing_frames() {
     for serial in [0, 5, 0x0FFFFFFF] {
         assert_eq!(modbus::write_found(serial, 0xA9, &mut out), Ok(10));
         let address = 0xA9;
-        assert_eq!(
-            modbus::read_answer(&out),
-            Ok(Answer::Found { serial, address })
-        );
+        let found = Answer::Found { serial, address };
+        assert_eq!(modbus::read_answer(&out), answered(found, 0));
     }
 }
 
@@ -1059,35 +1096,34 @@ fn a_table_shows_its_columns() {
     assert!(Table::default().is_empty());
 }
 
+/// How many FF these bytes begin with.
+fn leading_ff(bytes: &[u8]) -> usize {
+    bytes.iter().take_while(|&&byte| byte == 0xFF).count()
+}
+
 #[test]
 fn a_start_then_continues() {
     let mut table = three([1, 1, 1]);
-    let mut heard = vec![table.start().unwrap()];
-    heard.extend((0..4).map(|_| table.resume().unwrap()));
-    let answers: Vec<Answer> = heard
+    let mut replies = vec![table.start().unwrap()];
+    replies.extend((0..4).map(|_| table.resume().unwrap()));
+    let answers: Vec<_> = replies
         .iter()
-        .map(|reply| modbus::read_answer(reply.bytes()).unwrap())
+        .map(|reply| modbus::read_answer(reply.bytes()))
         .collect();
     let found = |serial, address| Answer::Found { serial, address };
-    let expected = [
-        found(5, 0x02),
-        found(9, 0x03),
-        found(0x0001EB37, 0x0C),
-        Answer::End,
-        Answer::End,
-    ];
-    assert_eq!(answers, expected);
     // One FF for each zero bit of the winner's key; a scanned one has four
     // ones before its serial.
-    let fill: Vec<usize> = heard
+    let expected = [
+        answered(found(5, 0x02), 30),
+        answered(found(9, 0x03), 30),
+        answered(found(0x0001EB37, 0x0C), 20),
+        answered(Answer::End, 26),
+        answered(Answer::End, 26),
+    ];
+    assert_eq!(answers, expected);
+    let fill: Vec<usize> = replies
         .iter()
-        .map(|reply| {
-            reply
-                .bytes()
-                .iter()
-                .take_while(|&&byte| byte == 0xFF)
-                .count()
-        })
+        .map(|reply| leading_ff(reply.bytes()))
         .collect();
     assert_eq!(fill, [30, 30, 20, 26, 26]);
     assert_eq!(table.marks(), [1, 1, 1]);
@@ -1165,19 +1201,40 @@ fn a_scan_keeps_entries_behind_those_heard() {
         marks: &mut marks,
     };
     let (mut serials, mut addresses) = ([1000; 4], [FILL; 5]);
-    let scanned = |end, requests, found| Scanned {
-        end,
+    let unfinished = |requests, found, skipped| Scanned {
+        end: ScanEnd::Unfinished,
         requests,
         found,
+        skipped,
     };
     let none = lent.scan(&mut serials, &mut addresses, 0);
-    assert_eq!(none, Ok(scanned(ScanEnd::Unfinished, 0, 0)));
+    assert_eq!(none, Ok(unfinished(0, 0, 0)));
     assert_eq!((&*lent.marks, serials), (&[1, 1, 1][..], [1000; 4]));
+    // 5 has 30 zero bits and 7 has 29.
     let two = lent.scan(&mut serials, &mut addresses, 2);
-    assert_eq!(two, Ok(scanned(ScanEnd::Unfinished, 2, 2)));
+    assert_eq!(two, Ok(unfinished(2, 2, 59)));
     assert_eq!(lent.marks, [1, 1, 0]);
     assert_eq!(serials, [5, 7, 1000, 1000]);
     assert_eq!(addresses, [0x02, 0x0C, FILL, FILL, FILL]);
+}
+
+#[test]
+fn a_scan_counts_the_ff_of_every_answer() {
+    // 30 zero bits in 00000005 and in 00000009, 20 in 0001EB37, and 26 in
+    // F0000005, whose device says the end.
+    for (cap, skipped) in [(0, 0), (1, 30), (2, 60), (3, 80), (4, 106), (100, 106)] {
+        for marks in [[0, 0, 0], [1, 0, 1], [1, 1, 1]] {
+            assert_eq!(three(marks).scan(cap).skipped(), skipped, "cap {cap}");
+        }
+    }
+    // The most that a device puts on the bus, and the fewest: 00000000 and
+    // F0000000, 0FFFFFFF and FFFFFFFF.
+    let alone = |serial| Table::new([serial], [1], [0]).unwrap();
+    assert_eq!(alone(0).scan(100).skipped(), 32 + 28);
+    assert_eq!(alone(0x0FFFFFFF).scan(100).skipped(), 4);
+    for cap in [0, 1, 100] {
+        assert_eq!(Table::default().scan(cap).skipped(), 0);
+    }
 }
 
 #[test]
@@ -1189,6 +1246,10 @@ fn the_largest_table_is_scanned() {
     let mut table = Table::unscanned(devices).unwrap();
     let scan = table.scan(usize::MAX);
     assert_eq!((scan.end(), scan.requests()), (ScanEnd::Complete, 248));
+    // The end comes from the smallest serial, whose key has ones before it now.
+    let zeros = table.serials().iter().map(|serial| serial.count_zeros());
+    let end = (table.serials()[0] | 0xF0000000).count_zeros();
+    assert_eq!(scan.skipped(), (zeros.sum::<u32>() + end) as usize);
     assert!(scan.heard().eq(table.devices()));
     assert!(table.marks().iter().all(|&mark| mark == 1));
 }
@@ -1230,7 +1291,7 @@ fn checked(bytes: &[u8]) -> Vec<u8> {
 
 /// The packet in what must be one.
 fn packet(input: &[u8]) -> events::Packet<'_> {
-    match events::read_answer(input) {
+    match events::read_answer(input).map(|heard| heard.answer) {
         Ok(events::Answer::Packet(packet)) => packet,
         other => panic!("{input:02X?} is no packet: {other:02X?}"),
     }
@@ -1253,8 +1314,7 @@ fn the_printed_event_frames() {
     };
     assert!(read.events().eq([change]));
 
-    let nothing = events::read_answer(&NO_EVENTS);
-    assert_eq!(nothing, Ok(events::Answer::NoEvents));
+    assert_eq!(events::read_answer(&NO_EVENTS), nothing_back(0));
     let mut out = [FILL; 6];
     assert_eq!(events::write_no_events(&mut out), Ok(5));
     assert_eq!((&out[..5], out[5]), (&NO_EVENTS[..], FILL));
@@ -1291,40 +1351,49 @@ fn what_comes_back_refused() {
     let longer = [&NO_EVENTS[..], &[0x00]].concat();
     let more_than_queued = checked(&[0x05, 0x46, 0x11, 0x01, 0x00, 0x04, 0x00, 0x0F, 0x00, 0x00]);
     let uneven = checked(&[0x05, 0x46, 0x11, 0x01, 0x01, 0x04, 0x01, 0x0F, 0x00, 0x00]);
-    let mut wrong = [&[0xFF; 3], &PACKET[..]].concat();
-    *wrong.last_mut().unwrap() ^= 0x01;
-    let cases: [(&[u8], Named); 16] = [
+    let mut wrong = PACKET;
+    wrong[13] ^= 0x01;
+    let cases: [(&[u8], Named); 15] = [
         (&[], (13, 0)),
-        (&[0xFF; 40], (13, 0)),
         (&NO_EVENTS[..4], (13, 0)),
         (&longer, (13, 0)),
         (&PACKET[..5], (13, 0)),
         (&PACKET[..13], (13, 0)),
         (&more_than_queued, (13, 0)),
         (&uneven, (13, 0)),
-        (&[0xFF, 0x00, 0x46, 0x11, 0x00, 0x00], (14, 1)),
-        (&[0xFF, 0xF8, 0x46, 0x11, 0x00, 0x00], (14, 1)),
-        (&[0xFF, 0xF7, 0x47, 0x11, 0x00, 0x00], (14, 2)),
-        (&[0xFF, 0xF7, 0x46, 0x12, 0x00, 0x00], (15, 3)),
+        (&[0x00, 0x46, 0x11, 0x00, 0x00], (14, 0)),
+        (&[0xF8, 0x46, 0x11, 0x00, 0x00], (14, 0)),
+        (&[0xF7, 0x47, 0x11, 0x00, 0x00], (14, 1)),
+        (&[0xF7, 0x46, 0x12, 0x00, 0x00], (15, 2)),
         (&[0xFD, 0x46, 0x11, 0x00, 0x00], (15, 2)),
         (&EVENT_REQUEST, (15, 2)),
-        (&wrong, (16, 15)),
-        (&[0xFF, 0xFD, 0x46, 0x12, 0x52, 0x5E], (16, 4)),
+        (&wrong, (16, 12)),
+        (&[0xFD, 0x46, 0x12, 0x52, 0x5E], (16, 3)),
     ];
     for (frame, refusal) in cases {
-        assert_eq!(refused(events::read_answer(frame)), refusal, "{frame:02X?}");
+        for fill in [0, 1, 3, 31, 32, 33, 34, 1000] {
+            let input = behind_fill(fill, frame);
+            let due = named_behind(fill, refusal);
+            assert_eq!(refused(events::read_answer(&input)), due, "{input:02X?}");
+        }
     }
 }
 
 #[test]
-fn any_number_of_ff_before_what_comes_back() {
-    for count in [0, 1, 32, 33, 1000] {
-        let fill = vec![0xFF; count];
-        let input = [&fill[..], &NO_EVENTS].concat();
-        let nothing = events::read_answer(&input);
-        assert_eq!(nothing, Ok(events::Answer::NoEvents));
-        let input = [&fill[..], &PACKET].concat();
-        assert_eq!(packet(&input), packet(&PACKET));
+fn at_most_32_ff_before_what_comes_back() {
+    for fill in 0..=32 {
+        let nothing = behind_fill(fill, &NO_EVENTS);
+        assert_eq!(events::read_answer(&nothing), nothing_back(fill));
+        let input = behind_fill(fill, &PACKET);
+        let heard = events::read_answer(&input).unwrap();
+        let answer = events::Answer::Packet(packet(&PACKET));
+        assert_eq!((heard.answer, heard.skipped), (answer, fill));
+    }
+    for fill in [33, 34, 41, 1000] {
+        for frame in [&NO_EVENTS[..], &PACKET, &[]] {
+            let input = behind_fill(fill, frame);
+            assert_eq!(refused(events::read_answer(&input)), (19, 32));
+        }
     }
 }
 
@@ -1459,7 +1528,10 @@ impl Polling {
         assert_eq!(offered.offer(&self.table, &request.frame()), Ok(reply));
         assert_eq!(offered, self.queues);
         let reply = reply?;
-        match (reply.sent(), events::read_answer(reply.bytes()).unwrap()) {
+        let heard = events::read_answer(reply.bytes()).unwrap();
+        assert_eq!(reply.skipped(), leading_ff(reply.bytes()));
+        assert_eq!(heard.skipped, reply.skipped());
+        match (reply.sent(), heard.answer) {
             (Sent::NoEvents { .. }, events::Answer::NoEvents) => {}
             (
                 Sent::Packet {
@@ -1576,12 +1648,30 @@ fn the_printed_packet_is_sent() {
     let reply = queues.offer(&table, &EVENT_REQUEST).unwrap().unwrap();
     // The key 105 has nine zero bits.
     assert_eq!(reply.bytes(), [&[0xFF; 9], &PACKET[..]].concat());
-    assert_eq!(reply.as_ref(), reply.bytes());
+    assert_eq!((reply.as_ref(), reply.skipped()), (reply.bytes(), 9));
     assert_eq!(Some(reply.sent()), sent(5, 1, 1));
     let reply = queues.poll(&table, asking(0, 0, 5, 1)).unwrap().unwrap();
     // The key F05 has six.
     assert_eq!(reply.bytes(), [&[0xFF; 6], &NO_EVENTS[..]].concat());
+    assert_eq!(reply.skipped(), 6);
     assert_eq!(Some(reply.sent()), no_events(5));
+}
+
+#[test]
+fn a_poll_counts_the_zero_bits_of_its_key() {
+    let skipped = |polling: &mut Polling| {
+        let polled = polling.queues.poll(&polling.table, asking(0, 4, 0, 0));
+        polled.unwrap().expect("the device answers").skipped()
+    };
+    // Four bits are the marker, 15, then 1, then 0, and eight are the id.
+    for (id, ones) in [(1, 1), (0x55, 4), (127, 7), (128, 1), (247, 7)] {
+        let mut polling = Polling::of(&[id]);
+        assert_eq!(skipped(&mut polling), 8 - ones);
+        polling.add(id, false, change(1, &[])).unwrap();
+        assert_eq!(skipped(&mut polling), 3 + 8 - ones);
+        polling.add(id, true, change(2, &[])).unwrap();
+        assert_eq!(skipped(&mut polling), 4 + 8 - ones);
+    }
 }
 
 #[test]
@@ -1707,6 +1797,7 @@ fn lent_queues_refuse_short_answers_then_the_table_then_the_frame() {
     let polled = Polled {
         sent: Sent::NoEvents { sender: 1 },
         length: 12,
+        skipped: 7,
     };
     let answered = lent.poll(confirming, &mut answer[..POLL_ROOM]);
     assert_eq!(answered, Ok(Some(polled)));

@@ -37,7 +37,7 @@ module _ (input : List ℕ) (at : ℕ) where
     read : framedAt answerFraming input at ≡ framed first s carried
     read = head-framed-is (framedAt answerFraming input at) s head .2
 
-    pub answer-end : (s ≡ deviceFound → ⊥) → answerAt input at ≡ End
+    pub answer-end : (s ≡ deviceFound → ⊥) → answerAt input at ≡ End at
     unfolding answerAt
     answer-end other = ap (answeredBy at) read ∙ simp (ne-eqb s deviceFound other)
 
@@ -66,4 +66,4 @@ module _ (input : List ℕ) (at : ℕ) where
       answer-found =
           ap (answeredBy at) read
           ∙ simp (eq-eqb s deviceFound is)
-          (ap₂ (λ (serial address : ℕ). pick (ltb serial serialLimit) (Found serial address) (Refused (at-place serialOver (at + 3)))) same-serial (stands 4 (omega arith)))
+          (ap₂ (λ (serial address : ℕ). pick (ltb serial serialLimit) (Found at serial address) (Refused (at-place serialOver (at + 3)))) same-serial (stands 4 (omega arith)))

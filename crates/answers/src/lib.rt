@@ -1,8 +1,8 @@
 // The answers of devices to a Fast Modbus scan, read and written.
 //
-// Rules F4 and F5. An answer comes behind any number of FF. The reader takes any bytes and any
-// length; what it refuses, it refuses by number and place. A writer writes the whole frame or nothing,
-// and leaves the bytes behind it.
+// Rules F4 and F5. An answer comes behind up to 32 FF, which the reader counts. The reader takes any
+// bytes and any length; what it refuses, it refuses by number and place. A writer writes the whole
+// frame or nothing, and leaves the bytes behind it.
 use framing::BROADCAST;
 use framing::END;
 use framing::EXTENDED;
@@ -11,6 +11,7 @@ use framing::Head;
 use framing::SERIAL_LIMIT;
 use framing::head_at;
 use framing::write_closed;
+use refusal::FILL_OVER;
 use refusal::Refusal;
 use refusal::SERIAL_OVER;
 use refusal::Written;
@@ -19,33 +20,55 @@ ghost use mathlib.Mathlib.Logic.Function.Defs.{id};
 ghost use Prim.Native.Nat.{_+_, _*_, _<_, min};
 ghost use lib.ListN.{length, getD, drop};
 ghost use Rattle.refusal.specs.Output.{Wrote};
-ghost use Rattle.answers.specs.Reading.{serialOf, skipped, found, answerAt, readAnswer};
+ghost use Rattle.answers.specs.Reading.{serialOf, beforeFrame, found, answerAt, readAnswer};
 ghost use Rattle.answers.specs.Writing.{filled, writeFound, writeEnd};
 
 // The byte that a dominant window puts before an answer.
 pub const FILL: u8 = 0xFF;
 
-// What the answer reader finds.
+// No contest of devices has more dominant windows, so no answer stands behind more FF.
+pub const MOST_FILL: usize = 32;
+
+// What a reader passes over before a frame: so many FF, or the refusal of one FF more.
+pub enum Skipped {
+    Fill(usize),
+    Refused(Refusal),
+}
+
+// What the answer reader finds, with how many FF it passed over.
 pub enum AnswerRead {
-    Found { serial: u32, address: u8 },
-    End,
+    Found {
+        skipped: usize,
+        serial: u32,
+        address: u8,
+    },
+    End {
+        skipped: usize,
+    },
     Refused(Refusal),
 }
 
 // ---- reading
 
-// How many bytes a reader of answers passes over: the FF that the input begins with.
-pub fn skipped(input: &[u8]) -> usize
-    ensures { λ r. ⌜ r ≡ skipped (now (input .entry)) ⌝ }
+// What a reader of answers passes over: the FF that the input begins with. It looks no further than
+// the one that is too many.
+pub fn before_frame(input: &[u8]) -> Skipped
+    ensures { λ r. ⌜ r ≡ beforeFrame (now (input .entry)) ⌝ }
 {
     let mut i = 0;
     while i < input.len() {
         if input[i] != FILL {
-            return i;
+            return Skipped::Fill(i);
+        }
+        if i == MOST_FILL {
+            return Skipped::Refused(Refusal {
+                number: FILL_OVER,
+                place: i,
+            });
         }
         i += 1;
     }
-    i
+    Skipped::Fill(i)
 }
 
 // Two bytes, high byte first.
@@ -74,6 +97,7 @@ fn found_at(input: &[u8], at: usize) -> AnswerRead
     let serial = serial_at(input, at + 3);
     if serial < SERIAL_LIMIT {
         return AnswerRead::Found {
+            skipped: at,
             serial,
             address: input[at + 7],
         };
@@ -92,7 +116,7 @@ fn answer_at(input: &[u8], at: usize) -> AnswerRead
     match head {
         Head::Framed(subcommand) => {
             if subcommand != FOUND {
-                return AnswerRead::End;
+                return AnswerRead::End { skipped: at };
             }
             found_at(input, at)
         }
@@ -100,13 +124,16 @@ fn answer_at(input: &[u8], at: usize) -> AnswerRead
     }
 }
 
-// What an answer says: a device found, with its serial and its address, or the end of the scan. Any
-// number of FF before the frame is passed over, and the frame must fill the rest.
+// What an answer says: a device found, with its serial and its address, or the end of the scan. Up to
+// 32 FF before the frame are passed over and counted, and the frame must fill the rest.
 pub fn read_answer(input: &[u8]) -> AnswerRead
     ensures { λ r. ⌜ r ≡ readAnswer (now (input .entry)) ⌝ }
 {
-    let at = skipped(input);
-    answer_at(input, at)
+    let skipped = before_frame(input);
+    match skipped {
+        Skipped::Fill(at) => answer_at(input, at),
+        Skipped::Refused(why) => AnswerRead::Refused(why),
+    }
 }
 
 // ---- writing

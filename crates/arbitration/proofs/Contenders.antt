@@ -12,8 +12,9 @@ use lib.Pow.{pow-pos, pow-mono}
 use borrow.Author.Tests.{ltb-true, ltb-false, lt-ltb, eq-eqb, ne-eqb}
 use Rattle.lists.specs.Choice.{pick}
 use Rattle.lists.specs.Tests.{any, keep, position}
-use Rattle.arbitration.specs.Contest.{dominant, after, remaining, dominantWindows, winner, fits, contending, decided}
+use Rattle.arbitration.specs.Contest.{zeroIn, dominant, after, remaining, dominantWindows, winner, fits, contending, decided}
 use Rattle.arbitration.specs.Prefix.{starts, within, decidedWithin}
+use Rattle.arbitration.specs.Smallest.{zeroBits}
 use Rattle.lists.proofs.Cases.{by-test, true-not-false, either-first}
 use Rattle.lists.proofs.Tests.{keep-cong, keep-all, keep-none, any-here}
 use Rattle.lists.proofs.Position.{position-nowhere}
@@ -48,15 +49,22 @@ all-fit w bits (key ∷ keys) longer below =
     let first : key < 2 ^ bits = below 0 (omega arith) in
     lt-ltb 0 (suc (length keys)) (omega arith) ∙ either-first _ (lt-ltb key (2 ^ w) (omega (arith, first, pow-mono longer)))
 
+-- a window counts for at most one
+at-most-one : (b : Bool) (n w : ℕ) → n ≤ w → pick b 1 0 + n ≤ suc w
+at-most-one true n w h = omega arith
+at-most-one false n w h = omega arith
+
 -- at most every window is dominant
 pub dominant-le : (w : ℕ) (keys : List ℕ) → dominantWindows w keys ≤ w
 unfolding dominantWindows
 dominant-le zero keys = omega arith
-dominant-le (suc w) keys = go (dominant w keys) (dominantWindows w (after w keys)) (dominant-le w (after w keys))
-  where
-    go : (b : Bool) (n : ℕ) → n ≤ w → pick b 1 0 + n ≤ suc w
-    go true n h = omega arith
-    go false n h = omega arith
+dominant-le (suc w) keys = at-most-one (dominant w keys) (dominantWindows w (after w keys)) w (dominant-le w (after w keys))
+
+-- .. and at most every bit of a key is 0
+pub zeros-le : (w key : ℕ) → zeroBits w key ≤ w
+unfolding zeroBits
+zeros-le zero key = omega arith
+zeros-le (suc w) key = at-most-one (zeroIn w key) (zeroBits w key) w (zeros-le w key)
 
 pub decided-le : (w : ℕ) (keys : List ℕ) → decided w keys .dominant ≤ w
 unfolding decided

@@ -27,6 +27,7 @@ pub(crate) fn name(page: Page, number: u8) -> Page {
 16 wrong check
 17 serial too large
 18 queue full
+19 over 32 FF
 26 no hex digit
 ",
         number,

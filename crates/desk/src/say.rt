@@ -165,6 +165,11 @@ pub fn spelled(page: Page, name: u8, text: &[u8]) -> Page {
     byte(put(byte(texts::plain(page, name), b' '), text), b'\n')
 }
 
+// The end of a first line: how many FF were passed over.
+pub fn skipped(page: Page, count: usize) -> Page {
+    texts::text(page, texts::SKIPPED, one(count as u64))
+}
+
 pub fn refused(page: Page, why: Refusal) -> Page {
     let numbers = two(why.number as u64, why.place as u64);
     let a = texts::text(page, texts::REFUSED, numbers);

@@ -103,6 +103,10 @@ pub const FINISHED: u8 = 48;
 
 pub const REGISTER: u8 = 49;
 
+pub const SKIPPED: u8 = 50;
+
+pub const SKIPPED_BELOW: u8 = 51;
+
 pub fn text(page: Page, number: u8, numbers: Numbers) -> Page {
     numbered(
         page,
@@ -125,22 +129,22 @@ pub fn text(page: Page, number: u8, numbers: Numbers) -> Page {
 17 __data
 18 start|
 19 continue|
-20 found ^ at $|
-21 end|
+20 found ^ at $
+21 end
 22 # devices, valid|
 23 # devices, not valid|
 24 __^ at $ mark #|
 25 __found ^ at $|
 26 answer
 27 silence|
-28 Complete, # requests|
-29 Nobody, # requests|
-30 Unfinished, # requests|
+28 Complete, # requests
+29 Nobody, # requests
+30 Unfinished, # requests
 31 used #, listening|
 32 used #, answered|
 33 poll
-34 events from $, flag $, count #|
-35 no events|
+34 events from $, flag $, count #
+35 no events
 36 __$ $$
 37 ____normal $ $$
 38 ____urgent $ $$
@@ -155,6 +159,8 @@ pub fn text(page: Page, number: u8, numbers: Numbers) -> Page {
 47 running W $ ^|
 48 finished W $ ^|
 49 __$ ^ access #|
+50 , # FF|
+51 __# FF|
 ",
         number,
         numbers,

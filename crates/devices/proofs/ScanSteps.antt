@@ -1,10 +1,10 @@
 -- The steps of a whole scan: what it comes to from here on, and how many devices it can still find.
 -- Assumes nothing.
-use mathlib.Core.Path.{_≡_, ap, _∙_}
+use mathlib.Core.Path.{_≡_, sym, ap, ap₂, _∙_}
 use mathlib.Core.Bool.{true}
 use mathlib.Core.List.{List, _∷_}
 use Prim.Native.Nat.{ℕ, suc, _+_, _<_}
-use native.Mathlib.Nat.{add-zero}
+use native.Mathlib.Nat.{add-zero, add-assoc}
 use native.Mathlib.Omega.{arith}
 use lib.ListN.{length, getD, set}
 use lib.Seq.{sets}
@@ -13,7 +13,7 @@ use Rattle.requests.specs.declared.Request.{Request}
 use Rattle.requests.specs.declared.Request.the-variants.{Continue}
 use Rattle.table.specs.Table.{Table, devices, valid}
 use Rattle.turns.specs.Request.{Turn, contest, contend, tableAfter, standing, respond}
-use Rattle.devices.specs.WholeScan.{onward, scanFrom, leftBy, serialsHeard, addressesHeard, closing}
+use Rattle.devices.specs.WholeScan.{onward, scanFrom, leftBy, serialsHeard, addressesHeard, fillHeard, closing}
 use Rattle.lists.specs.Tests.{howMany}
 use Rattle.turns.specs.declared.Answer.{Answer}
 use Rattle.turns.specs.declared.Answer.the-variants.{Silence, Found, End}
@@ -34,17 +34,17 @@ pub scan-step : (k : ℕ) (request : Request) (t : Table) (answer : Answer) → 
 unfolding scanFrom
 scan-step k request t answer e = ap (λ (a : Answer). answered (respond request t) a ∷ onward a (scanFrom k Continue (respond request t .table))) e
 
--- what a scan comes to from here on, with so many devices heard before and the lists as they are
+-- what a scan comes to from here on, with so many devices heard and FF passed over before, and the lists as they are
 pub record Finish : Type 0 where
   pub scanned : Scanned
   pub serials : List ℕ
   pub addresses : List ℕ
   pub table : Table
 
-abbrev pub finish : ℕ → List ℕ → List ℕ → Table → List Turn → Finish
-finish sent serials addresses t turns =
+abbrev pub finish : ℕ → ℕ → List ℕ → List ℕ → Table → List Turn → Finish
+finish sent fill serials addresses t turns =
     record {
-      scanned = closing turns (sent + length turns);
+      scanned = closing turns (sent + length turns) (fill + fillHeard turns);
       serials = sets serials sent (serialsHeard turns);
       addresses = sets addresses sent (addressesHeard turns);
       table = leftBy turns t;
@@ -53,33 +53,38 @@ finish sent serials addresses t turns =
 abbrev pub finished : Scanned → List ℕ → List ℕ → Table → Finish
 finished scanned serials addresses t = record { scanned = scanned; serials = serials; addresses = addresses; table = t }
 
-module _ (sent k : ℕ) (serials addresses : List ℕ) (request : Request) (t : Table) where
+module _ (sent fill k : ℕ) (serials addresses : List ℕ) (request : Request) (t : Table) where
   pub finish-found : (dominant serial address : ℕ) → respond request t .answer ≡ Found dominant serial address
-      → finish sent serials addresses t (scanFrom (suc k) request t)
-      ≡ finish (suc sent) (set serials sent serial) (set addresses sent address) (respond request t .table) (scanFrom k Continue (respond request t .table))
-  unfolding serialsHeard addressesHeard closing leftBy
+      → finish sent fill serials addresses t (scanFrom (suc k) request t)
+      ≡ finish (suc sent) (fill + dominant) (set serials sent serial) (set addresses sent address) (respond request t .table) (scanFrom k Continue (respond request t .table))
+  unfolding serialsHeard addressesHeard fillHeard closing leftBy
   finish-found dominant serial address e =
       let later = scanFrom k Continue (respond request t .table) in
-      ap (finish sent serials addresses t) (scan-step k request t (Found dominant serial address) e)
-      ∙ ap (λ (n : ℕ). finished (closing later n) (sets (set serials sent serial) (suc sent) (serialsHeard later))
+      ap (finish sent fill serials addresses t) (scan-step k request t (Found dominant serial address) e)
+      ∙ ap₂ (λ (n f : ℕ). finished (closing later n f) (sets (set serials sent serial) (suc sent) (serialsHeard later))
       (sets (set addresses sent address) (suc sent) (addressesHeard later)) (leftBy later (respond request t .table)))
       (let n : ℕ = length later in
       let e : sent + suc n ≡ suc sent + n = omega arith in e)
+      (sym (add-assoc fill dominant (fillHeard later)))
 
   pub finish-ended : (dominant : ℕ) → respond request t .answer ≡ End dominant
-      → finish sent serials addresses t (scanFrom (suc k) request t) ≡ finished (Complete (sent + 1)) serials addresses (respond request t .table)
-  unfolding serialsHeard addressesHeard closing leftBy
-  finish-ended dominant e = ap (finish sent serials addresses t) (scan-step k request t (End dominant) e)
+      → finish sent fill serials addresses t (scanFrom (suc k) request t) ≡ finished (Complete (sent + 1) (fill + dominant)) serials addresses (respond request t .table)
+  unfolding serialsHeard addressesHeard fillHeard closing leftBy
+  finish-ended dominant e =
+      ap (finish sent fill serials addresses t) (scan-step k request t (End dominant) e)
+      ∙ ap (λ (f : ℕ). finished (Complete (sent + 1) (fill + f)) serials addresses (respond request t .table)) (add-zero dominant)
 
   pub finish-silent : respond request t .answer ≡ Silence
-      → finish sent serials addresses t (scanFrom (suc k) request t) ≡ finished (Nobody (sent + 1)) serials addresses (respond request t .table)
-  unfolding serialsHeard addressesHeard closing leftBy
-  finish-silent e = ap (finish sent serials addresses t) (scan-step k request t Silence e)
+      → finish sent fill serials addresses t (scanFrom (suc k) request t) ≡ finished (Nobody (sent + 1) fill) serials addresses (respond request t .table)
+  unfolding serialsHeard addressesHeard fillHeard closing leftBy
+  finish-silent e =
+      ap (finish sent fill serials addresses t) (scan-step k request t Silence e)
+      ∙ ap (λ (f : ℕ). finished (Nobody (sent + 1) f) serials addresses (respond request t .table)) (add-zero fill)
 
-pub finish-none : (sent : ℕ) (serials addresses : List ℕ) (request : Request) (t : Table)
-    → finish sent serials addresses t (scanFrom 0 request t) ≡ finished (Unfinished sent) serials addresses t
-unfolding scanFrom serialsHeard addressesHeard closing leftBy
-finish-none sent serials addresses request t = ap (λ (n : ℕ). finished (Unfinished n) serials addresses t) (add-zero sent)
+pub finish-none : (sent fill : ℕ) (serials addresses : List ℕ) (request : Request) (t : Table)
+    → finish sent fill serials addresses t (scanFrom 0 request t) ≡ finished (Unfinished sent fill) serials addresses t
+unfolding scanFrom serialsHeard addressesHeard fillHeard closing leftBy
+finish-none sent fill serials addresses request t = ap₂ (λ (n f : ℕ). finished (Unfinished n f) serials addresses t) (add-zero sent) (add-zero fill)
 
 -- ---- how many marks there are
 

@@ -1,7 +1,7 @@
 -- A whole scan, request by request under the caller's cap. Rule D8.
 -- Assumes nothing.
 use mathlib.Core.Path.{_≡_}
-use Prim.Native.Nat.{ℕ, zero, suc, min}
+use Prim.Native.Nat.{ℕ, zero, suc, _+_, min}
 use mathlib.Core.List.{List, [], _∷_}
 use lib.ListN.{length}
 use Rattle.lists.specs.Starting.{starting}
@@ -56,21 +56,32 @@ unfoldable pub addressesHeard : List Turn → List ℕ
 addressesHeard [] = []
 addressesHeard (turn ∷ turns) = addressIn (turn .answer) (addressesHeard turns)
 
+-- how many FF stand before an answer, and before all answers of a scan together, the end's included
+abbrev pub fillOf : Answer → ℕ
+fillOf (Found dominant serial address) = dominant
+fillOf (End dominant) = dominant
+fillOf Silence = 0
+
+unfoldable pub fillHeard : List Turn → ℕ
+fillHeard [] = 0
+fillHeard (turn ∷ turns) = fillOf (turn .answer) + fillHeard turns
+
 -- how a scan closed: Complete by an end, Nobody by silence, Unfinished by neither
-abbrev pub closedBy : Answer → (ℕ → Scanned) → ℕ → Scanned
+abbrev pub closedBy : Answer → (ℕ → ℕ → Scanned) → ℕ → ℕ → Scanned
 closedBy (Found dominant serial address) later = later
 closedBy (End dominant) later = Complete
 closedBy Silence later = Nobody
 
-unfoldable pub closing : List Turn → ℕ → Scanned
+unfoldable pub closing : List Turn → ℕ → ℕ → Scanned
 closing [] = Unfinished
 closing (turn ∷ turns) = closedBy (turn .answer) (closing turns)
 
--- rule D8: a scan's answer as numbers: how it ended, the requests sent, and how many devices were heard, which its lists hold
+-- rule D8: a scan's answer as numbers: how it ended, the requests sent, how many devices were heard, which its lists hold, and how
+-- many FF stood before its answers
 abbrev pub scannedNumbers : Scanned → ℕ → Numbers
-scannedNumbers (Complete n) heard = acceptedWith (1 ∷ n ∷ heard ∷ [])
-scannedNumbers (Nobody n) heard = acceptedWith (2 ∷ n ∷ heard ∷ [])
-scannedNumbers (Unfinished n) heard = acceptedWith (3 ∷ n ∷ heard ∷ [])
+scannedNumbers (Complete sent skipped) heard = acceptedWith (1 ∷ sent ∷ heard ∷ skipped ∷ [])
+scannedNumbers (Nobody sent skipped) heard = acceptedWith (2 ∷ sent ∷ heard ∷ skipped ∷ [])
+scannedNumbers (Unfinished sent skipped) heard = acceptedWith (3 ∷ sent ∷ heard ∷ skipped ∷ [])
 scannedNumbers (Refused why) heard = refusedWith why
 
 -- what the call gives: how the scan closed, the two lent lists afterwards, the table afterwards, and the turns that it made
@@ -93,7 +104,7 @@ pub record GivesScan {A : Type 0} (shows : Scanned → ℕ → A) (given : Scann
 abbrev pub concluded : List ℕ → List ℕ → Table → List Turn → Scanning
 concluded serials addresses t turns =
     record {
-      scanned = closing turns (length turns);
+      scanned = closing turns (length turns) (fillHeard turns);
       serials = starting (serialsHeard turns) serials;
       addresses = starting (addressesHeard turns) addresses;
       table = leftBy turns t;

@@ -27,12 +27,12 @@ pub enum Response {
     Refused(Refusal),
 }
 
-// What a whole scan gives, with the number of requests sent: the end was heard, nobody is there, or
-// the cap was reached; or the refusal.
+// What a whole scan gives, with the number of requests sent and how many FF stood before all its
+// answers together: the end was heard, nobody is there, or the cap was reached; or the refusal.
 pub enum Scanned {
-    Complete(usize),
-    Nobody(usize),
-    Unfinished(usize),
+    Complete { requests: usize, skipped: usize },
+    Nobody { requests: usize, skipped: usize },
+    Unfinished { requests: usize, skipped: usize },
     Refused(Refusal),
 }
 

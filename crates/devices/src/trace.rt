@@ -25,7 +25,8 @@ fn request_after(sent: usize) -> Request
 }
 
 // Requests until end, silence or the cap. Every request before the last one found a device, so the
-// number sent is also the number of entries heard.
+// number sent is also the number of entries heard. The FF of each answer are counted, also those
+// before the end.
 pub(crate) fn run(
     serials: &[u32],
     addresses: &[u8],
@@ -38,26 +39,38 @@ pub(crate) fn run(
     ensures { λ r. ⌜ GivesScan (const ℕ) (concluded (now («found_serials» .entry)) (now («found_addresses» .entry)) (columns (now (serials .entry)) (now (addresses .entry)) (now (marks .entry))) (scanFrom cap Start (columns (now (serials .entry)) (now (addresses .entry)) (now (marks .entry))))) r (now («found_serials» .exit)) (now («found_addresses» .exit)) (columns (now (serials .entry)) (now (addresses .entry)) (now (marks .exit))) ⌝ }
 {
     let mut sent = 0;
+    let mut skipped = 0;
     while sent < cap {
         let request = request_after(sent);
         let heard = bus::respond(request, serials, addresses, marks);
         match heard {
             Answer::Found {
-                dominant: _,
+                dominant,
                 serial,
                 address,
             } => {
                 found_serials[sent] = serial;
                 found_addresses[sent] = address;
                 sent += 1;
+                skipped += dominant;
             }
-            Answer::End { dominant: _ } => {
-                return Scanned::Complete(sent + 1);
+            Answer::End { dominant } => {
+                let requests = sent + 1;
+                return Scanned::Complete {
+                    requests,
+                    skipped: skipped + dominant,
+                };
             }
             Answer::Silence => {
-                return Scanned::Nobody(sent + 1);
+                return Scanned::Nobody {
+                    requests: sent + 1,
+                    skipped,
+                };
             }
         }
     }
-    Scanned::Unfinished(sent)
+    Scanned::Unfinished {
+        requests: sent,
+        skipped,
+    }
 }

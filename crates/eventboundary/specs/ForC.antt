@@ -26,7 +26,7 @@ eventRequestForC x =
 abbrev pub eventsForC : EventsRead → MoorEventsRead
 eventsForC x =
     let n = eventsNumbers x in
-    record { number = n .number; answer = value n 0; sender = value n 1; flag = value n 2; queued = value n 3; size = value n 6; place = n .place; listed = value n 4; first = value n 5 }
+    record { number = n .number; answer = value n 0; sender = value n 2; flag = value n 3; queued = value n 4; size = value n 7; place = n .place; listed = value n 5; first = value n 6; skipped = value n 1 }
 
 -- 1 before a whole event; where none stands, all is 0
 abbrev pub eventForC : EventRead → MoorEvent
@@ -42,4 +42,4 @@ addedForC x =
 abbrev pub polledForC : Polled → MoorPolled
 polledForC x =
     let n = polledNumbers x in
-    record { number = n .number; answer = value n 0; sender = value n 2; flag = value n 3; events = value n 4; place = n .place; length = value n 1 }
+    record { number = n .number; answer = value n 0; sender = value n 3; flag = value n 4; events = value n 5; place = n .place; length = value n 2; skipped = value n 1 }

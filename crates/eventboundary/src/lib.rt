@@ -24,7 +24,8 @@ pub struct MoorEventRequestRead {
     pub place: usize,
 }
 
-// What came back for an event request: a packet, or that nobody has events.
+// What came back for an event request: a packet, or that nobody has events, and how many FF were passed
+// over.
 #[repr(C)]
 pub struct MoorEventsRead {
     pub number: u8,
@@ -36,6 +37,7 @@ pub struct MoorEventsRead {
     pub place: usize,
     pub listed: usize,
     pub first: usize,
+    pub skipped: usize,
 }
 
 // One event, and where its data starts in the input.
@@ -56,7 +58,8 @@ pub struct MoorAdded {
     pub place: usize,
 }
 
-// What a poll gives: what was answered, by whom, and how long the answer is. Silence is answer 0.
+// What a poll gives: what was answered, by whom, how long the answer is, and how many FF it begins
+// with. Silence is answer 0.
 #[repr(C)]
 pub struct MoorPolled {
     pub number: u8,
@@ -66,6 +69,7 @@ pub struct MoorPolled {
     pub events: u8,
     pub place: usize,
     pub length: usize,
+    pub skipped: usize,
 }
 
 pub fn event_request_for_c(x: EventRequestRead) -> MoorEventRequestRead
@@ -92,8 +96,8 @@ pub fn event_request_for_c(x: EventRequestRead) -> MoorEventRequestRead
 }
 
 // An answer with no packet: that nobody has events, or why there is none.
-fn no_packet(number: u8, answer: u8, place: usize) -> MoorEventsRead
-    ensures { λ r. ⌜ r ≡ record { number = number; answer = answer; sender = 0; flag = 0; queued = 0; size = 0; place = place; listed = 0; first = 0 } ⌝ }
+fn no_packet(number: u8, answer: u8, place: usize, skipped: usize) -> MoorEventsRead
+    ensures { λ r. ⌜ r ≡ record { number = number; answer = answer; sender = 0; flag = 0; queued = 0; size = 0; place = place; listed = 0; first = 0; skipped = skipped } ⌝ }
 {
     MoorEventsRead {
         number,
@@ -105,6 +109,7 @@ fn no_packet(number: u8, answer: u8, place: usize) -> MoorEventsRead
         place,
         listed: 0,
         first: 0,
+        skipped,
     }
 }
 
@@ -113,6 +118,7 @@ pub fn events_for_c(x: EventsRead) -> MoorEventsRead
 {
     match x {
         EventsRead::Packet {
+            skipped,
             sender,
             flag,
             queued,
@@ -129,9 +135,10 @@ pub fn events_for_c(x: EventsRead) -> MoorEventsRead
             place: 0,
             listed,
             first,
+            skipped,
         },
-        EventsRead::Nothing => no_packet(0, NO_EVENTS, 0),
-        EventsRead::Refused(why) => no_packet(why.number, 0, why.place),
+        EventsRead::Nothing { skipped } => no_packet(0, NO_EVENTS, 0, skipped),
+        EventsRead::Refused(why) => no_packet(why.number, 0, why.place, 0),
     }
 }
 
@@ -179,9 +186,16 @@ pub fn added_for_c(x: Added) -> MoorAdded
     }
 }
 
-// An answer of the devices: how long it is, what it is, and by whom.
-fn answered(length: usize, answer: u8, sender: u8, flag: u8, events: u8) -> MoorPolled
-    ensures { λ r. ⌜ r ≡ record { number = 0; answer = answer; sender = sender; flag = flag; events = events; place = 0; length = length } ⌝ }
+// An answer of the devices: how many FF it begins with, how long it is, what it is, and by whom.
+fn answered(
+    skipped: usize,
+    length: usize,
+    answer: u8,
+    sender: u8,
+    flag: u8,
+    events: u8,
+) -> MoorPolled
+    ensures { λ r. ⌜ r ≡ record { number = 0; answer = answer; sender = sender; flag = flag; events = events; place = 0; length = length; skipped = skipped } ⌝ }
 {
     MoorPolled {
         number: 0,
@@ -191,6 +205,7 @@ fn answered(length: usize, answer: u8, sender: u8, flag: u8, events: u8) -> Moor
         events,
         place: 0,
         length,
+        skipped,
     }
 }
 
@@ -199,13 +214,18 @@ pub fn polled_for_c(x: Polled) -> MoorPolled
 {
     match x {
         Polled::Packet {
+            skipped,
             length,
             sender,
             flag,
             events,
-        } => answered(length, PACKET, sender, flag, events),
-        Polled::Nothing { length, sender } => answered(length, NO_EVENTS, sender, 0, 0),
-        Polled::Silent => answered(0, 0, 0, 0, 0),
+        } => answered(skipped, length, PACKET, sender, flag, events),
+        Polled::Nothing {
+            skipped,
+            length,
+            sender,
+        } => answered(skipped, length, NO_EVENTS, sender, 0, 0),
+        Polled::Silent => answered(0, 0, 0, 0, 0, 0),
         Polled::Refused(why) => MoorPolled {
             number: why.number,
             answer: 0,
@@ -214,6 +234,7 @@ pub fn polled_for_c(x: Polled) -> MoorPolled
             events: 0,
             place: why.place,
             length: 0,
+            skipped: 0,
         },
     }
 }

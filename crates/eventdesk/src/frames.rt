@@ -58,6 +58,7 @@ pub(crate) fn read_events(input: &[u8], page: Page) -> Page {
     let read = packets::read_events(input);
     match read {
         EventsRead::Packet {
+            skipped,
             sender,
             flag,
             queued,
@@ -67,9 +68,11 @@ pub(crate) fn read_events(input: &[u8], page: Page) -> Page {
         } => {
             let numbers = three(sender as u64, flag as u64, queued as u64);
             let head = texts::text(page, texts::EVENTS, numbers);
-            say_listed(listed, input, first, head)
+            say_listed(listed, input, first, say::skipped(head, skipped))
         }
-        EventsRead::Nothing => texts::plain(page, texts::NO_EVENTS),
+        EventsRead::Nothing { skipped } => {
+            say::skipped(texts::plain(page, texts::NO_EVENTS), skipped)
+        }
         EventsRead::Refused(why) => say::refused(page, why),
     }
 }

@@ -9,6 +9,7 @@ use desk::part::slots_length;
 use desk::part::start_of;
 use desk::say;
 use desk::say::Page;
+use desk::say::one;
 use desk::state::Desk;
 use desk::state::FILL;
 use desk::state::FULL;
@@ -122,9 +123,23 @@ fn response(
 
 fn say_polled(polled: Polled, answer: &[u8], page: Page) -> Page {
     match polled {
-        Polled::Packet { length, .. } => say::named(page, texts::ANSWER, start_of(answer, length)),
-        Polled::Nothing { length, .. } => say::named(page, texts::ANSWER, start_of(answer, length)),
+        Polled::Packet {
+            skipped,
+            length,
+            ..
+        } => say_answer(skipped, start_of(answer, length), page),
+        Polled::Nothing {
+            skipped,
+            length,
+            ..
+        } => say_answer(skipped, start_of(answer, length), page),
         Polled::Silent => texts::plain(page, texts::SILENCE),
         Polled::Refused(why) => say::refused(page, why),
     }
+}
+
+// An answer, and below it how many FF it begins with.
+fn say_answer(skipped: usize, answer: &[u8], page: Page) -> Page {
+    let said = say::named(page, texts::ANSWER, answer);
+    texts::text(said, texts::SKIPPED_BELOW, one(skipped as u64))
 }

@@ -47,8 +47,8 @@ pub extern "C" fn moor_write_event_request(
     written_for_c(eventrequests::write_event_request(request, out))
 }
 
-// What came back for an event request. Any number of leading FF is passed over, and the frame must fill
-// the rest.
+// What came back for an event request. Up to 32 leading FF are passed over and counted, and the frame
+// must fill the rest.
 #[no_mangle]
 pub extern "C" fn moor_read_events(input: &[u8]) -> MoorEventsRead
     ensures { λ r. ⌜ r ≡ eventsForC (readEvents (now (input .entry))) ⌝ }

@@ -16,11 +16,14 @@ use Rattle.queues.proofs.Events.{queued-length}
 use Rattle.queues.specs.Queues.{Queues, Queued, countOf, flagOf, slotsOf, queue, validQueues}
 use Rattle.oldest.specs.Oldest.{markerOf}
 use Rattle.polls.specs.Poll.{silence, nothing, packet, pollContest, sentBy, afterConfirming, pollHeard}
+use Rattle.polls.specs.Calls.{heardBytes}
+use Rattle.packets.specs.Reading.{readEvents}
+use Rattle.packets.specs.declared.EventsRead.the-variants.{Nothing}
 use Rattle.eventsequence.specs.Calls.{State}
 use Rattle.eventsequence.specs.Sequence.{Answers, Answered}
 use Rattle.eventsequence.proofs.Confirming.{confirming-valid}
 use Rattle.eventsequence.proofs.ReadBack.{nothing-read}
-use Rattle.eventsequence.proofs.Sending.{answering, sending, answer}
+use Rattle.eventsequence.proofs.Sending.{answering, sending, answer, dominants, nothing-fill}
 use Rattle.eventsequence.proofs.Winner.{Wins, Decides, none-wins, one-wins, contending, decides, id-low, only-the-idle}
 
 none-or-some : (events : List Queued) → (events ≡ []) ⊎ (0 < length events)
@@ -89,6 +92,11 @@ module _ (request : EventRequest) (now : State) (v : validQueues (now .table) (n
         );
       }
 
+  read : (dominant id : ℕ) → pollHeard request t q ≡ nothing dominant id → (dominant ≡ dominants request t q) × (readEvents (heardBytes (nothing dominant id)) ≡ Nothing dominant)
+  read dominant id heard =
+      let fill = nothing-fill request t q dominant id heard in
+      (fill .0, nothing-read dominant id (omega (arith, fill .1)))
+
   by-contest : Decides request t q (pollContest request t q) → Answered request now
   by-contest (none-wins over none) =
       record {
@@ -96,7 +104,7 @@ module _ (request : EventRequest) (now : State) (v : validQueues (now .table) (n
         by-none = λ nobody. heard-none request t q over;
         silent = λ heard. none;
         nothing-queued = λ dominant id heard device there c. true-not-false c (none device there);
-        nothing-read = nothing-read;
+        nothing-read = read;
       }
   by-contest (one-wins w) =
       record {
@@ -109,7 +117,7 @@ module _ (request : EventRequest) (now : State) (v : validQueues (now .table) (n
         nothing-queued = λ dominant id heard. ⊎-elim (all-idle request t q (confirming-valid request t (now .queues) v) w)
             (λ some. let said = heard-busy request t q (w .there) some in let z : _≡_ {A = ℕ} 0 1 = cc in absurd (let n : ⊥ = omega arith in n))
             (none-or-some (queue q (answering request t q)));
-        nothing-read = nothing-read;
+        nothing-read = read;
       }
 
   pub answered : Answered request now

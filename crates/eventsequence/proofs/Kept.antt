@@ -25,6 +25,7 @@ use Rattle.eventsequence.proofs.MarksUnseen.{add-same, poll-same}
 use Rattle.eventsequence.proofs.Follows.{FollowsIn, follows-first}
 use Rattle.eventsequence.proofs.NewEvents.{room-decides}
 use Rattle.eventsequence.proofs.Confirming.{confirming-valid, confirming-follows}
+use Rattle.eventsequence.proofs.Sending.{packet-fill}
 use Rattle.eventsequence.proofs.Packets.{packet-of}
 use Rattle.eventsequence.proofs.ReadBack.{packet-read, packet-walk}
 use Rattle.eventsequence.proofs.Answering.{answered}
@@ -55,6 +56,7 @@ follows-kept device before now l v there f =
           packet-of request (now .table) (afterConfirming request (now .table) (now .queues)) (confirming-valid request (now .table) (now .queues) v)
           device there dominant flag queued events heard in
           let c = confirming-follows request (now .table) (now .queues) v device there f in
+          let fill = packet-fill request (now .table) (afterConfirming request (now .table) (now .queues)) dominant (getD (now .table .addresses) device 0) flag queued events heard in
           let long : length events ≤ queued = omega (arith, p .count, ap length (p .oldest), length-take (length events) (queue (afterConfirming request (now .table) (now .queues)) device)) in
           record {
             flag-due = p .flag-is ∙ c .flag-stands;
@@ -63,8 +65,9 @@ follows-kept device before now l v there f =
             some = p .some;
             fits = p .fits;
             full = p .full;
-            read = λ d. packet-read d (getD (now .table .addresses) device 0) flag queued events (right-id (now .table) (now .queues) v device there) long;
-            walk = λ d. packet-walk d (getD (now .table .addresses) device 0) flag queued events;
+            fill-due = fill .0;
+            read = packet-read dominant (getD (now .table .addresses) device 0) flag queued events (omega (arith, fill .1)) (right-id (now .table) (now .queues) v device there) long;
+            walk = packet-walk dominant (getD (now .table .addresses) device 0) flag queued events;
           };
       accepts = λ e few. room-decides (now .table) (now .queues) v device there e few;
     }

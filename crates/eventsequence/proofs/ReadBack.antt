@@ -7,6 +7,7 @@ use Prim.Native.Nat.{ℕ, _+_, _≤_}
 use native.Mathlib.Omega.{arith}
 use lib.ListN.{length, length-map}
 use Rattle.events.specs.Events.{isId, walked}
+use Rattle.answers.specs.Reading.{mostFill}
 use Rattle.packets.specs.Reading.{readEvents}
 use Rattle.packets.specs.declared.EventsRead.the-variants.{Packet, Nothing}
 use Rattle.packets.proofs.RoundTrip.{event-packets}
@@ -19,12 +20,12 @@ module _ (dominant id flag queued : ℕ) (events : List Queued) where
   same : length (map eventOf events) ≡ length events
   same = length-map events eventOf
 
-  pub packet-read : isId id ≡ true → length events ≤ queued
-      → readEvents (heardBytes (packet dominant id flag queued events)) ≡ Packet id flag queued (length events) (dominant + 6) (onWire events)
+  pub packet-read : dominant ≤ mostFill → isId id ≡ true → length events ≤ queued
+      → readEvents (heardBytes (packet dominant id flag queued events)) ≡ Packet dominant id flag queued (length events) (dominant + 6) (onWire events)
   unfolding heardBytes
-  packet-read right few =
-      event-packets .packet-back dominant id flag queued (map eventOf events) right (omega (arith, same))
-      ∙ ap (λ (n : ℕ). Packet id flag queued n (dominant + 6) (onWire events)) same
+  packet-read low right few =
+      event-packets .packet-back dominant id flag queued (map eventOf events) low right (omega (arith, same))
+      ∙ ap (λ (n : ℕ). Packet dominant id flag queued n (dominant + 6) (onWire events)) same
 
   pub packet-walk : walked (length events) (heardBytes (packet dominant id flag queued events)) (dominant + 6) ≡ map eventOf events
   unfolding heardBytes
@@ -32,6 +33,6 @@ module _ (dominant id flag queued : ℕ) (events : List Queued) where
       ap (λ (n : ℕ). walked n (heardBytes (packet dominant id flag queued events)) (dominant + 6)) (sym same)
       ∙ event-packets .events-back dominant id flag queued (map eventOf events)
 
-pub nothing-read : (dominant id : ℕ) → readEvents (heardBytes (nothing dominant id)) ≡ Nothing
+pub nothing-read : (dominant id : ℕ) → dominant ≤ mostFill → readEvents (heardBytes (nothing dominant id)) ≡ Nothing dominant
 unfolding heardBytes
-nothing-read dominant id = event-packets .nothing-back dominant
+nothing-read dominant id low = event-packets .nothing-back dominant low

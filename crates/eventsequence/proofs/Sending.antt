@@ -19,7 +19,9 @@ use Rattle.queues.proofs.Below.{below-from}
 use Rattle.queues.proofs.SlotsRight.{slots-decide}
 use Rattle.queues.proofs.Meaning.{Tested, tested, valid-from}
 use Rattle.queues.proofs.Replaced.{queue-right, count-few, slots-right}
-use Rattle.polls.specs.Poll.{Heard, silence, nothing, packet, pollContest, howManyFit, withLast, sentBy, queuesAfter, pollHeard}
+use Rattle.arbitration.specs.Contest.{dominantWindows, contending, decided}
+use Rattle.arbitration.proofs.Contenders.{decided-le}
+use Rattle.polls.specs.Poll.{Heard, silence, nothing, packet, pollWindows, pollKeys, pollContest, howManyFit, withLast, sentBy, queuesAfter, pollHeard}
 use Rattle.eventsequence.specs.Calls.{Ledger, enterHeard}
 use Rattle.eventsequence.proofs.Places.{one-device}
 use Rattle.eventsequence.proofs.Follows.{FollowsIn, follows-on, follows-sent, follows-unsent}
@@ -46,6 +48,33 @@ module _ (request : EventRequest) (t : Table) (q : Queues) where
       (λ e. none (pollContest request t q .dominant) (getD (t .addresses) answering 0))
       (λ e. some (ltb-true answering (devices t) there) (eqb-false (countOf q answering) 0 e)))
       (λ e. nobody)
+
+  -- before whatever is heard stands an FF for each window that was dominant; of 12 windows, no more
+  abbrev pub dominants : ℕ
+  dominants = dominantWindows pollWindows (contending pollWindows (pollKeys request (t .addresses) q))
+
+  FillIs : Heard → Type 0
+  FillIs silence = Unit {0}
+  FillIs (nothing dominant id) = (dominant ≡ dominants) × (dominant ≤ pollWindows)
+  FillIs (packet dominant id flag queued events) = (dominant ≡ dominants) × (dominant ≤ pollWindows)
+
+  heard-fill : FillIs (pollHeard request t q)
+  unfolding pollHeard sentBy decided FillIs
+  heard-fill =
+      let low = decided-le pollWindows (pollKeys request (t .addresses) q) in
+      pick-cases FillIs (ltb answering (devices t)) (sentBy request t q (pollContest request t q .dominant) answering) silence
+      (λ there. pick-cases FillIs (eqb (countOf q answering) 0) (nothing (pollContest request t q .dominant) (getD (t .addresses) answering 0)) answer
+      (λ e. (refl, low)) (λ e. (refl, low)))
+      (λ e. tt)
+
+  pub packet-fill : (dominant id flag queued : ℕ) (events : List Queued) → pollHeard request t q ≡ packet dominant id flag queued events
+      → (dominant ≡ dominants) × (dominant ≤ pollWindows)
+  unfolding FillIs
+  packet-fill dominant id flag queued events e = subst FillIs e heard-fill
+
+  pub nothing-fill : (dominant id : ℕ) → pollHeard request t q ≡ nothing dominant id → (dominant ≡ dominants) × (dominant ≤ pollWindows)
+  unfolding FillIs
+  nothing-fill dominant id e = subst FillIs e heard-fill
 
 -- ---- the queues after it
 

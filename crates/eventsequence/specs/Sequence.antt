@@ -14,6 +14,7 @@ use Rattle.lists.specs.Choice.{pick}
 use Rattle.lists.specs.Starting.{starting}
 use Rattle.refusal.specs.Number.{queueFull, at-place}
 use Rattle.refusal.specs.declared.Refusal.{Refusal}
+use Rattle.arbitration.specs.Contest.{dominantWindows, contending}
 use Rattle.arbitration.specs.Smallest.{zeroBits}
 use Rattle.table.specs.Table.{devices}
 use Rattle.events.specs.Events.{eventsBytes, walked}
@@ -24,7 +25,7 @@ use Rattle.queues.specs.Queues.{Queued, flagOf, lastOf, queue, validQueues}
 use Rattle.oldest.specs.Oldest.{markerOf}
 use Rattle.newevents.specs.Event.{addCall}
 use Rattle.newevents.specs.declared.Added.the-variants.{Done, Refused}
-use Rattle.polls.specs.Poll.{eventOf, contends, Heard, silence, nothing, packet, afterConfirming, pollHeard}
+use Rattle.polls.specs.Poll.{eventOf, contends, pollWindows, pollKeys, Heard, silence, nothing, packet, afterConfirming, pollHeard}
 use Rattle.packets.specs.Reading.{readEvents}
 use Rattle.packets.specs.declared.EventsRead.the-variants.{Packet, Nothing}
 use Rattle.polls.specs.Calls.{heardBytes, polledAs, Polling, pollRefusing, pollCall}
@@ -41,15 +42,19 @@ idOf now device = getD (now .table .addresses) device 0
 abbrev pub queueMet : EventRequest → State → ℕ → List Queued
 queueMet request now device = queue (afterConfirming request (now .table) (now .queues)) device
 
--- what that poll hears, and how many bytes events have on the wire
+-- what that poll hears, how many windows are dominant in its contest, and how many bytes events have on the wire
 abbrev pub heardNext : EventRequest → State → Heard
 heardNext request now = pollHeard request (now .table) (afterConfirming request (now .table) (now .queues))
+
+abbrev pub dominantNext : EventRequest → State → ℕ
+dominantNext request now =
+    dominantWindows pollWindows (contending pollWindows (pollKeys request (now .table .addresses) (afterConfirming request (now .table) (now .queues))))
 
 abbrev pub onWire : List Queued → ℕ
 onWire events = length (eventsBytes (map eventOf events))
 
 -- a packet that a poll made now would hear from the device
-pub record PacketDue (device : ℕ) (now : State) (l : Ledger) (request : EventRequest) (flag queued : ℕ) (events : List Queued) : Type 0 where
+pub record PacketDue (device : ℕ) (now : State) (l : Ledger) (request : EventRequest) (dominant flag queued : ℕ) (events : List Queued) : Type 0 where
   -- its flag is the one due, which a confirmation in the same poll has turned
   pub flag-due : flag ≡ enterConfirmed (idOf now device) request l .flag
   -- it says how many events are queued, those that it lists included
@@ -60,9 +65,11 @@ pub record PacketDue (device : ℕ) (now : State) (l : Ledger) (request : EventR
   -- and as many as fit: no more bytes than were asked for, and one event more would be too long
   pub fits : onWire events ≤ request .most
   pub full : length events < length (queueMet request now device) → request .most < onWire (take (suc (length events)) (queueMet request now device))
-  -- read by the event reader, behind however many FF, it is that, and a walk over its events finds them
-  pub read : (dominant : ℕ) → readEvents (heardBytes (packet dominant (idOf now device) flag queued events)) ≡ Packet (idOf now device) flag queued (length events) (dominant + 6) (onWire events)
-  pub walk : (dominant : ℕ) → walked (length events) (heardBytes (packet dominant (idOf now device) flag queued events)) (dominant + 6) ≡ map eventOf events
+  -- before it stands an FF for each window that was dominant
+  pub fill-due : dominant ≡ dominantNext request now
+  -- read by the event reader, it is that, with those FF counted, and a walk over its events finds them
+  pub read : readEvents (heardBytes (packet dominant (idOf now device) flag queued events)) ≡ Packet dominant (idOf now device) flag queued (length events) (dominant + 6) (onWire events)
+  pub walk : walked (length events) (heardBytes (packet dominant (idOf now device) flag queued events)) (dominant + 6) ≡ map eventOf events
 
 -- what was queued before and since is what confirmation dropped, in order, followed by what is queued now
 pub record Kept (device : ℕ) (before now : State) (l : Ledger) : Type 0 where
@@ -76,7 +83,7 @@ pub record Kept (device : ℕ) (before now : State) (l : Ledger) : Type 0 where
   pub confirms : (request : EventRequest)
       → queue (before .queues) device ++ l .queued ≡ enterConfirmed (idOf now device) request l .dropped ++ queueMet request now device
   pub sends : (request : EventRequest) (dominant flag queued : ℕ) (events : List Queued)
-      → heardNext request now ≡ packet dominant (idOf now device) flag queued events → PacketDue device now l request flag queued events
+      → heardNext request now ≡ packet dominant (idOf now device) flag queued events → PacketDue device now l request dominant flag queued events
   -- an event made next for it, with no more than 8 data bytes, is taken exactly where fewer than 8 are queued, so that room freed
   -- by confirmation is used again; else it is refused with 18
   pub accepts : (e : Queued) → length (e .event .payload) ≤ 8
@@ -112,12 +119,12 @@ pub record Answered (request : EventRequest) (now : State) : Type 0 where
   -- that nobody has events (0x12) is heard only where no device that contends has any
   pub nothing-queued : (dominant id : ℕ) → heardNext request now ≡ nothing dominant id
       → (device : ℕ) → device < devices (now .table) → contendsNext request now device ≡ true → queueMet request now device ≡ []
-  -- and is read as that
-  pub nothing-read : (dominant id : ℕ) → readEvents (heardBytes (nothing dominant id)) ≡ Nothing
+  -- and is read as that, behind an FF for each window that was dominant, which are counted
+  pub nothing-read : (dominant id : ℕ) → heardNext request now ≡ nothing dominant id → (dominant ≡ dominantNext request now) × (readEvents (heardBytes (nothing dominant id)) ≡ Nothing dominant)
 
 -- ---- what a poll made now gives
 
--- its result and the lent buffer tell what is heard; bytes behind the answer stay
+-- its result, with the number of its FF, and the lent buffer tell what is heard; bytes behind the answer stay
 pub record Told (request : EventRequest) (now : State) (buffer : List ℕ) (given : Polling) : Type 0 where
   pub result : given .polled ≡ polledAs (heardNext request now)
   pub holds : given .buffer ≡ starting (heardBytes (heardNext request now)) buffer

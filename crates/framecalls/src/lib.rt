@@ -29,7 +29,8 @@ pub extern "C" fn moor_read_request(input: &[u8]) -> MoorRequestRead
     request_for_c(requests::read_request(input))
 }
 
-// What an answer says. Any number of leading FF is passed over, and the frame must fill the rest.
+// What an answer says. Up to 32 leading FF are passed over and counted, and the frame must fill the
+// rest.
 #[no_mangle]
 pub extern "C" fn moor_read_answer(input: &[u8]) -> MoorAnswerRead
     ensures { λ r. ⌜ r ≡ answerForC (readAnswer (now (input .entry))) ⌝ }

@@ -256,17 +256,20 @@ fn scanned(cap: usize, table: Table, room: usize, page: Page) -> AfterScan {
     }
 }
 
-// How a scan ended: the text for it, with how many requests were sent and how many devices heard.
+// How a scan ended: the text for it, with how many requests were sent, how many FF stood before its
+// answers and how many devices were heard.
 struct Ending {
     text: u8,
     requests: usize,
+    skipped: usize,
     heard: usize,
 }
 
-fn ended(text: u8, requests: usize, heard: usize) -> Ending {
+fn ended(text: u8, requests: usize, skipped: usize, heard: usize) -> Ending {
     Ending {
         text,
         requests,
+        skipped,
         heard,
     }
 }
@@ -275,19 +278,25 @@ fn ended(text: u8, requests: usize, heard: usize) -> Ending {
 // end. An unfinished one has heard a device at each request.
 fn say_scan<'a>(s: Scanned, serials: &'a [u32], addresses: &'a [u8], page: Page) -> Page {
     match s {
-        Scanned::Complete(n) => {
-            let heard = if n == 0 { 0 } else { n - 1 };
-            say_ending(ended(texts::COMPLETE, n, heard), serials, addresses, page)
+        Scanned::Complete { requests, skipped } => {
+            let heard = if requests == 0 { 0 } else { requests - 1 };
+            let e = ended(texts::COMPLETE, requests, skipped, heard);
+            say_ending(e, serials, addresses, page)
         }
-        Scanned::Nobody(n) => say_ending(ended(texts::NOBODY, n, 0), serials, addresses, page),
-        Scanned::Unfinished(n) => {
-            say_ending(ended(texts::UNFINISHED, n, n), serials, addresses, page)
+        Scanned::Nobody { requests, skipped } => {
+            let e = ended(texts::NOBODY, requests, skipped, 0);
+            say_ending(e, serials, addresses, page)
+        }
+        Scanned::Unfinished { requests, skipped } => {
+            let e = ended(texts::UNFINISHED, requests, skipped, requests);
+            say_ending(e, serials, addresses, page)
         }
         Scanned::Refused(why) => say::refused(page, why),
     }
 }
 
 fn say_ending<'a>(e: Ending, serials: &'a [u32], addresses: &'a [u8], page: Page) -> Page {
-    let said = texts::text(page, e.text, one(e.requests as u64));
+    let sent = texts::text(page, e.text, one(e.requests as u64));
+    let said = say::skipped(sent, e.skipped);
     say_rows(e.heard, serials, addresses, b"", said)
 }

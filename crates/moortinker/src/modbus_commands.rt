@@ -41,10 +41,15 @@ fn say_request(request: Request, page: Page) -> Page {
 pub(crate) fn read_answer(input: &[u8], page: Page) -> Page {
     let read = answers::read_answer(input);
     match read {
-        AnswerRead::Found { serial, address } => {
-            texts::text(page, texts::FOUND, two(serial as u64, address as u64))
+        AnswerRead::Found {
+            skipped,
+            serial,
+            address,
+        } => {
+            let found = texts::text(page, texts::FOUND, two(serial as u64, address as u64));
+            say::skipped(found, skipped)
         }
-        AnswerRead::End => texts::plain(page, texts::END),
+        AnswerRead::End { skipped } => say::skipped(texts::plain(page, texts::END), skipped),
         AnswerRead::Refused(why) => say::refused(page, why),
     }
 }

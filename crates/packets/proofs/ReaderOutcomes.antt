@@ -110,7 +110,7 @@ module _ (input : List ℕ) (at : ℕ) (sender : isId (getD input at 0) ≡ true
               ∙ ap (λ (n : ℕ). getD input n 0) (sym is)
 
           pub packet-read : (n : ℕ) → howManyListed (eventsIn (drop packetHead (carriedAt input at))) ≡ n → closed (drop at input) ≡ true
-              → eventsAt input at ≡ Packet (getD input at 0) (getD input (at + 3) 0) (getD input (at + 4) 0) n (at + 6) (getD input (at + 5) 0)
+              → eventsAt input at ≡ Packet at (getD input at 0) (getD input (at + 3) 0) (getD input (at + 4) 0) n (at + 6) (getD input (at + 5) 0)
           unfolding eventsAt judged passed closed
           packet-read n count right =
               ap (saidBy at) (opened input at long eventFraming long)
@@ -167,7 +167,7 @@ module _ (input : List ℕ) (at : ℕ) (none : senderAt input at ≡ false) wher
   unfolding eventsAt
   nothing-refused why head = ap (saidBy at) (same-frame ∙ head-wrong-is (framedAt (scanFraming noEvents noEvents) input at) why head)
 
-  pub nothing-said : {s : ℕ} → headOf (framedAt (scanFraming noEvents noEvents) input at) ≡ Framed s → eventsAt input at ≡ Nothing
+  pub nothing-said : {s : ℕ} → headOf (framedAt (scanFraming noEvents noEvents) input at) ≡ Framed s → eventsAt input at ≡ Nothing at
   unfolding eventsAt
   nothing-said {s} head =
       let is = head-framed-is (framedAt (scanFraming noEvents noEvents) input at) s head in

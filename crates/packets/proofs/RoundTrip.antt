@@ -13,15 +13,17 @@ use Rattle.lists.proofs.All.{same-self, same-is}
 use Rattle.lists.proofs.Cases.{true-not-false, both-first, both-second}
 use Rattle.framing.specs.Framing.{body, frame, FrameRead, framed, wrong, passed, framedAt}
 use Rattle.framing.specs.Layout.{broadcast, extended, scanFirst, checkBytes}
-use Rattle.framing.proofs.Framing.{Sound, frame-read-back, exact, frame-exact, carried-at}
+use Rattle.framing.proofs.Framing.{Sound, short-refused, frame-read-back, exact, frame-exact, carried-at}
 use Rattle.framing.proofs.CheckBehind.{length-closed}
-use Rattle.answers.specs.Reading.{fill, skipped}
-use Rattle.answers.proofs.LeadingFill.{fill-before, fill-split}
+use Rattle.refusal.specs.Number.{frameLength, fillOver, at-place}
+use Rattle.answers.specs.Reading.{fill, leadingFill, mostFill, behindFill}
+use Rattle.answers.specs.declared.Skipped.{Skipped}
+use Rattle.answers.proofs.LeadingFill.{fill-before, fill-only, fill-least, fill-split, by-before, before-few, before-many}
 use Rattle.events.specs.Events.{isId, Event, eventsBytes, walked, Listed, listed, uneven, eventsIn, howManyListed}
 use Rattle.packets.specs.Layout.{eventPacket, noEvents, noMoreThan, packetFits, eventFraming, packetBytes, packetFrame, noEventsFrame}
 use Rattle.packets.specs.Reading.{packet, saidBy, eventsAt, readEvents}
 use Rattle.packets.specs.RoundTrip.{Bytes, Holds, EventPackets}
-use Rattle.packets.specs.declared.EventsRead.the-variants.{Packet, Nothing}
+use Rattle.packets.specs.declared.EventsRead.the-variants.{Packet, Nothing, Refused}
 use Rattle.events.proofs.Ids.{id-most}
 use Rattle.events.proofs.EventList.{walk-there, list-back, list-exact}
 use Rattle.packets.proofs.ReaderOutcomes.{not-broadcast, id-passes}
@@ -29,14 +31,14 @@ use Rattle.packets.proofs.ReaderOutcomes.{not-broadcast, id-passes}
 -- ---- read back
 
 -- a frame behind n FF: the reader passes over those and no more, and finds it
-read-behind : (n b s : ℕ) (carried : List ℕ) → (b ≡ fill → ⊥) → Sound eventFraming (b ∷ extended ∷ []) s carried
+read-behind : (n b s : ℕ) (carried : List ℕ) → n ≤ mostFill → (b ≡ fill → ⊥) → Sound eventFraming (b ∷ extended ∷ []) s carried
     → readEvents (replicate n fill ++ frame eventFraming (b ∷ extended ∷ []) s carried) ≡ saidBy n (framed (b ∷ extended ∷ []) s carried)
 unfolding frame checkBytes eventsAt readEvents
-read-behind n b s carried other sound =
+read-behind n b s carried few other sound =
     let before = replicate n fill in
     let first = b ∷ extended ∷ [] in
     let input = before ++ frame eventFraming first s carried in
-    ap (eventsAt input) (fill-before n b _ other)
+    ap (behindFill (eventsAt input) Refused) (before-few input n (fill-before n b _ other) few)
     ∙ ap (λ (at : ℕ). saidBy n (framedAt eventFraming input at)) (sym (length-replicate n fill))
     ∙ ap (saidBy n)
     (frame-read-back eventFraming before first s carried sound refl (same-self (checkBytes (body first s carried))) (omega (arith, length-closed (body first s carried))))
@@ -62,12 +64,12 @@ packet-sound sender flag queued events is within =
       fitting = packet-fits flag queued events within;
     }
 
-packet-back : (n sender flag queued : ℕ) (events : List Event) → isId sender ≡ true → length events ≤ queued
-    → readEvents (replicate n fill ++ packetFrame sender flag queued events) ≡ Packet sender flag queued (length events) (n + 6) (length (eventsBytes events))
+packet-back : (n sender flag queued : ℕ) (events : List Event) → n ≤ mostFill → isId sender ≡ true → length events ≤ queued
+    → readEvents (replicate n fill ++ packetFrame sender flag queued events) ≡ Packet n sender flag queued (length events) (n + 6) (length (eventsBytes events))
 unfolding packetBytes packetFrame
-packet-back n sender flag queued events is within =
-    read-behind n sender eventPacket (packetBytes flag queued events) (λ e. omega (arith, e, id-most sender is)) (packet-sound sender flag queued events is within)
-    ∙ ap (λ (l : Listed). Packet sender flag queued (howManyListed l) (n + 6) (length (eventsBytes events))) (list-back events)
+packet-back n sender flag queued events few is within =
+    read-behind n sender eventPacket (packetBytes flag queued events) few (λ e. omega (arith, e, id-most sender is)) (packet-sound sender flag queued events is within)
+    ∙ ap (λ (l : Listed). Packet n sender flag queued (howManyListed l) (n + 6) (length (eventsBytes events))) (list-back events)
 
 events-back : (n sender flag queued : ℕ) (events : List Event)
     → walked (length events) (replicate n fill ++ packetFrame sender flag queued events) (n + 6) ≡ events
@@ -79,9 +81,22 @@ events-back n sender flag queued events =
     let place : n + 6 ≡ length (fills ++ head) = omega (arith, length-append fills head, length-replicate n fill) in
     ap₂ (walked (length events)) (sym (append-assoc fills head (eventsBytes events ++ check))) place ∙ walk-there events (fills ++ head) check
 
-nothing-back : (n : ℕ) → readEvents (replicate n fill ++ noEventsFrame) ≡ Nothing
+nothing-back : (n : ℕ) → n ≤ mostFill → readEvents (replicate n fill ++ noEventsFrame) ≡ Nothing n
 unfolding passed noEventsFrame
-nothing-back n = read-behind n broadcast noEvents [] (eqb-false broadcast fill refl) (record { width = refl; marked = refl; taken = refl; fitting = refl })
+nothing-back n few = read-behind n broadcast noEvents [] few (eqb-false broadcast fill refl) (record { width = refl; marked = refl; taken = refl; fitting = refl })
+
+fill-alone : (n : ℕ) → n ≤ mostFill → readEvents (replicate n fill) ≡ Refused (at-place frameLength 0)
+unfolding eventsAt readEvents
+fill-alone n few =
+    let input = replicate n fill in
+    ap (behindFill (eventsAt input) Refused) (before-few input n (fill-only n) few)
+    ∙ ap (saidBy n) (short-refused eventFraming input n (omega (arith, length-replicate {A = ℕ} n fill)))
+
+over-refused : (n : ℕ) (rest : List ℕ) → mostFill < n → readEvents (replicate n fill ++ rest) ≡ Refused (at-place fillOver mostFill)
+unfolding readEvents
+over-refused n rest many =
+    let input = replicate n fill ++ rest in
+    ap (behindFill (eventsAt input) Refused) (before-many input (omega (arith, fill-least n rest)))
 
 -- ---- what is accepted is what would be written
 
@@ -155,22 +170,22 @@ module _ (input : List ℕ) (at : ℕ) (first : List ℕ) (s : ℕ) (carried : L
   takes = ap (λ (l : List ℕ). eqb s (pick (eqb (getD (l ++ s ∷ carried) 0 0) broadcast) noEvents eventPacket)) (sym (two .1)) ∙ sound .taken
 
 -- what was read where a packet is said, and where nothing is
-packet-said : (at : ℕ) (first : List ℕ) (s : ℕ) (carried : List ℕ) (sender flag queued count place size : ℕ)
-    → saidBy at (framed first s carried) ≡ Packet sender flag queued count place size
-    → (s ≡ eventPacket) × (packet at first carried ≡ Packet sender flag queued count place size)
-packet-said at first s carried sender flag queued count place size e = by (eqb s eventPacket) refl e
+packet-said : (at : ℕ) (first : List ℕ) (s : ℕ) (carried : List ℕ) (n sender flag queued count place size : ℕ)
+    → saidBy at (framed first s carried) ≡ Packet n sender flag queued count place size
+    → (s ≡ eventPacket) × (packet at first carried ≡ Packet n sender flag queued count place size)
+packet-said at first s carried n sender flag queued count place size e = by (eqb s eventPacket) refl e
   where
-    by : (t : Bool) → eqb s eventPacket ≡ t → pick t (packet at first carried) Nothing ≡ Packet sender flag queued count place size
-        → (s ≡ eventPacket) × (packet at first carried ≡ Packet sender flag queued count place size)
+    by : (t : Bool) → eqb s eventPacket ≡ t → pick t (packet at first carried) (Nothing at) ≡ Packet n sender flag queued count place size
+        → (s ≡ eventPacket) × (packet at first carried ≡ Packet n sender flag queued count place size)
     by true is e = (eqb-true s eventPacket is, e)
     by false is e = let z : _≡_ {A = ℕ} 0 1 = cc in absurd (omega arith)
 
-nothing-said : (at : ℕ) (first : List ℕ) (s : ℕ) (carried : List ℕ) → saidBy at (framed first s carried) ≡ Nothing → eqb s eventPacket ≡ false
-nothing-said at first s carried e = by (eqb s eventPacket) e
+nothing-said : (at : ℕ) (first : List ℕ) (s : ℕ) (carried : List ℕ) (n : ℕ) → saidBy at (framed first s carried) ≡ Nothing n → (eqb s eventPacket ≡ false) × (at ≡ n)
+nothing-said at first s carried n e = by (eqb s eventPacket) e
   where
-    by : (t : Bool) → pick t (packet at first carried) Nothing ≡ Nothing → t ≡ false
+    by : (t : Bool) → pick t (packet at first carried) (Nothing at) ≡ Nothing n → (t ≡ false) × (at ≡ n)
     by true e = let z : _≡_ {A = ℕ} 0 1 = cc in absurd (omega arith)
-    by false e = refl
+    by false e = (refl, cc)
 
 -- a frame of another subcommand than a packet's begins with the broadcast address, says that nobody has events, and carries nothing
 none-read : (b s : ℕ) (carried : List ℕ) → eqb s eventPacket ≡ false → eqb s (pick (eqb b broadcast) noEvents eventPacket) ≡ true → eventFraming .fits s carried ≡ true
@@ -189,16 +204,18 @@ none-read b s carried other takes fits = by (eqb b broadcast) refl takes
     )
     by false is takes = true-not-false takes other
 
-packet-exact : (input : List ℕ) (sender flag queued count place size : ℕ) → Bytes input → readEvents input ≡ Packet sender flag queued count place size
-    → Holds input sender flag queued count place size (walked count input place)
+packet-exact : (input : List ℕ) (n sender flag queued count place size : ℕ) → Bytes input → readEvents input ≡ Packet n sender flag queued count place size
+    → Holds input n sender flag queued count place size (walked count input place)
 unfolding packetFrame eventsAt readEvents
-packet-exact input sender flag queued count place size bytes e = by (framedAt eventFraming input (skipped input)) refl e
+packet-exact input n sender flag queued count place size bytes =
+    by-before (λ (s : Skipped). behindFill (eventsAt input) Refused s ≡ Packet n sender flag queued count place size → Holds input n sender flag queued count place size (walked count input place)) input
+    (by (framedAt eventFraming input (leadingFill input)) refl) (λ many e. let z : _≡_ {A = ℕ} 0 1 = cc in absurd (omega arith))
   where
-    by : (r : FrameRead) → framedAt eventFraming input (skipped input) ≡ r → saidBy (skipped input) r ≡ Packet sender flag queued count place size
-        → Holds input sender flag queued count place size (walked count input place)
-    by (framed first s carried) read e =
-        let at = skipped input in
-        let said = packet-said at first s carried sender flag queued count place size e in
+    by : (r : FrameRead) → framedAt eventFraming input (leadingFill input) ≡ r → leadingFill input ≤ mostFill → saidBy (leadingFill input) r ≡ Packet n sender flag queued count place size
+        → Holds input n sender flag queued count place size (walked count input place)
+    by (framed first s carried) read few e =
+        let at = leadingFill input in
+        let said = packet-said at first s carried n sender flag queued count place size e in
         let is-s = said .0 in
         let is = said .1 in
         let ok = sound input at first s carried read in
@@ -208,6 +225,7 @@ packet-exact input sender flag queued count place size bytes e = by (framedAt ev
         let fits : packetFits carried ≡ true = ap (λ (x : ℕ). eventFraming .fits x carried) (sym is-s) ∙ ok .fitting in
         let p = parts carried fits small in
         let is-sender : first-is .0 ≡ sender = ap (λ (l : List ℕ). getD l 0 0) (sym (first-is .1)) ∙ (let x : getD first 0 0 ≡ sender = cc in x) in
+        let is-n : at ≡ n = cc in
         let is-flag : getD carried 0 0 ≡ flag = cc in
         let is-queued : getD carried 1 0 ≡ queued = cc in
         let is-listed : howManyListed (eventsIn (drop 3 carried)) ≡ count = cc in
@@ -228,8 +246,10 @@ packet-exact input sender flag queued count place size bytes e = by (framedAt ev
         ap₂ (λ (n : ℕ) (l : List ℕ). walked n l place) number whole
         ∙ ap (walked (length (p .events)) (replicate at fill ++ packetFrame sender flag queued (p .events))) (sym is-place)
         ∙ events-back at sender flag queued (p .events) in
-        subst (Holds input sender flag queued count place size) (sym walk)
+        subst (λ (k : ℕ). Holds input k sender flag queued count place size (walked count input place)) is-n
+        (subst (Holds input at sender flag queued count place size) (sym walk)
         (record {
+          few = few;
           from = from;
           counted = omega (arith, number, p .within, is-queued);
           number = number;
@@ -237,24 +257,33 @@ packet-exact input sender flag queued count place size bytes e = by (framedAt ev
           room = sym is-size ∙ p .size;
           whole = whole;
           walk = walk;
-        })
-    by (wrong why) read e = let z : _≡_ {A = ℕ} 0 1 = cc in absurd (omega arith)
+        }))
+    by (wrong why) read few e = let z : _≡_ {A = ℕ} 0 1 = cc in absurd (omega arith)
 
-nothing-exact : (input : List ℕ) → readEvents input ≡ Nothing → input ≡ replicate (skipped input) fill ++ noEventsFrame
+nothing-exact : (input : List ℕ) (n : ℕ) → readEvents input ≡ Nothing n → (n ≤ mostFill) × (input ≡ replicate n fill ++ noEventsFrame)
 unfolding noEventsFrame eventsAt readEvents
-nothing-exact input e = by (framedAt eventFraming input (skipped input)) refl e
+nothing-exact input n =
+    by-before (λ (s : Skipped). behindFill (eventsAt input) Refused s ≡ Nothing n → Stands n) input
+    (by (framedAt eventFraming input (leadingFill input)) refl) (λ many e. let z : _≡_ {A = ℕ} 0 1 = cc in absurd (omega arith))
   where
-    by : (r : FrameRead) → framedAt eventFraming input (skipped input) ≡ r → saidBy (skipped input) r ≡ Nothing → input ≡ replicate (skipped input) fill ++ noEventsFrame
-    by (framed first s carried) read e =
-        let at = skipped input in
+    Stands : ℕ → Type 0
+    Stands k = (k ≤ mostFill) × (input ≡ replicate k fill ++ noEventsFrame)
+
+    by : (r : FrameRead) → framedAt eventFraming input (leadingFill input) ≡ r → leadingFill input ≤ mostFill → saidBy (leadingFill input) r ≡ Nothing n → Stands n
+    by (framed first s carried) read few e =
+        let at = leadingFill input in
         let first-is = two input at first s carried read in
-        let is = none-read (first-is .0) s carried (nothing-said at first s carried e) (takes input at first s carried read) (sound input at first s carried read .fitting) in
-        fill-split input
-        ∙ ap (λ (l : List ℕ). replicate at fill ++ l)
-        (stands input at first s carried read
-        ∙ ap₂ (λ (x : List ℕ) (y : ℕ). frame eventFraming x y carried) (first-is .1 ∙ ap (λ (x : ℕ). x ∷ extended ∷ []) (is .0)) (is .1)
-        ∙ ap (frame eventFraming scanFirst noEvents) (is .2))
-    by (wrong why) read e = let z : _≡_ {A = ℕ} 0 1 = cc in absurd (omega arith)
+        let said = nothing-said at first s carried n e in
+        let is = none-read (first-is .0) s carried (said .0) (takes input at first s carried read) (sound input at first s carried read .fitting) in
+        subst Stands (said .1) (
+          few,
+          fill-split input
+              ∙ ap (λ (l : List ℕ). replicate at fill ++ l)
+              (stands input at first s carried read
+              ∙ ap₂ (λ (x : List ℕ) (y : ℕ). frame eventFraming x y carried) (first-is .1 ∙ ap (λ (x : ℕ). x ∷ extended ∷ []) (is .0)) (is .1)
+              ∙ ap (frame eventFraming scanFirst noEvents) (is .2)),
+        )
+    by (wrong why) read few e = let z : _≡_ {A = ℕ} 0 1 = cc in absurd (omega arith)
 
 pub event-packets : EventPackets
 event-packets =
@@ -264,4 +293,6 @@ event-packets =
       packet-exact = packet-exact;
       nothing-back = nothing-back;
       nothing-exact = nothing-exact;
+      fill-alone = fill-alone;
+      over-refused = over-refused;
     }

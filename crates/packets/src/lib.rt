@@ -1,10 +1,11 @@
 // What comes back for a request of event polling, read; and that nobody has events, written.
 //
 // Rules F5, F7 and F8. The device that answers sends a packet of events, or says that nobody has any,
-// behind any number of FF. The reader takes any bytes and any length; what it refuses, it refuses by
-// number and place. The writer writes the whole frame or nothing, and leaves the bytes behind it.
-// Events stay where they are in the input, where `events::event_at` takes them apart.
-use answers::skipped;
+// behind up to 32 FF, which the reader counts. The reader takes any bytes and any length; what it
+// refuses, it refuses by number and place. The writer writes the whole frame or nothing, and leaves the
+// bytes behind it. Events stay where they are in the input, where `events::event_at` takes them apart.
+use answers::Skipped;
+use answers::before_frame;
 use events::Listing;
 use events::count_events;
 use events::is_id;
@@ -40,10 +41,12 @@ pub const PACKET: u8 = 0x11;
 
 pub const NO_EVENTS: u8 = 0x12;
 
-// What the reader of events finds: a packet, with how many events are queued and how many it lists,
-// where the first of those stands in the input, and how many bytes they have; or that nobody has any.
+// What the reader of events finds, with how many FF it passed over: a packet, with how many events are
+// queued and how many it lists, where the first of those stands in the input, and how many bytes they
+// have; or that nobody has any.
 pub enum EventsRead {
     Packet {
+        skipped: usize,
         sender: u8,
         flag: u8,
         queued: u8,
@@ -51,7 +54,9 @@ pub enum EventsRead {
         first: usize,
         size: u8,
     },
-    Nothing,
+    Nothing {
+        skipped: usize,
+    },
     Refused(Refusal),
 }
 
@@ -129,6 +134,7 @@ fn listed_at(input: &[u8], at: usize) -> EventsRead
         return refused(FRAME_CHECK, input.len() - 2);
     }
     EventsRead::Packet {
+        skipped: at,
         sender: input[at],
         flag: input[at + 3],
         queued: input[at + 4],
@@ -149,18 +155,21 @@ fn events_at(input: &[u8], at: usize) -> EventsRead
     }
     let head = head_at(NO_EVENTS, NO_EVENTS, input, at);
     match head {
-        Head::Framed(_) => EventsRead::Nothing,
+        Head::Framed(_) => EventsRead::Nothing { skipped: at },
         Head::Wrong(why) => EventsRead::Refused(why),
     }
 }
 
-// What comes back for a request: a packet, or that nobody has events. Any number of FF before the frame
-// is passed over, and the frame must fill the rest.
+// What comes back for a request: a packet, or that nobody has events. Up to 32 FF before the frame are
+// passed over and counted, and the frame must fill the rest.
 pub fn read_events(input: &[u8]) -> EventsRead
     ensures { λ r. ⌜ r ≡ readEvents (now (input .entry)) ⌝ }
 {
-    let at = skipped(input);
-    events_at(input, at)
+    let skipped = before_frame(input);
+    match skipped {
+        Skipped::Fill(at) => events_at(input, at),
+        Skipped::Refused(why) => EventsRead::Refused(why),
+    }
 }
 
 // Writes the answer that nobody has events.

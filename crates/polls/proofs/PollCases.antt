@@ -105,12 +105,12 @@ module _ (request : EventRequest) (t : Table) (q : Queues) (v : validQueues t q 
     own = queue q (won .place)
 
     pub gives-nothing : countOf q (won .place) ≡ 0 → (size : ℕ) (buffer : List ℕ) → size ≡ length (heardBytes (nothing (won .dominant) id))
-        → buffer ≡ starting (heardBytes (nothing (won .dominant) id)) old → GivesHeard request t q old (Nothing size id) buffer (q .lasts)
+        → buffer ≡ starting (heardBytes (nothing (won .dominant) id)) old → GivesHeard request t q old (Nothing (won .dominant) size id) buffer (q .lasts)
     unfolding sentBy
     gives-nothing none size buffer long written =
-        gives (nothing (won .dominant) id) (Nothing size id) buffer (q .lasts)
+        gives (nothing (won .dominant) id) (Nothing (won .dominant) size id) buffer (q .lasts)
         (sym (ap (λ (b : Bool). pick b (nothing (won .dominant) id) (packet (won .dominant) id (flagOf q (won .place)) (countOf q (won .place)) (take (howManyFit (request .most) own) own))) (eq-eqb (countOf q (won .place)) 0 none)) ∙ sent-is)
-        (ap (λ (n : ℕ). Nothing n id) long) written refl
+        (ap (λ (n : ℕ). Nothing (won .dominant) n id) long) written refl
 
     -- the events that the winner sends, by how many the code found to fit
     module _ (events : ℕ) (fit : events ≡ howManyFit (request .most) own) where
@@ -131,16 +131,16 @@ module _ (request : EventRequest) (t : Table) (q : Queues) (v : validQueues t q 
       pub gives-packet : (countOf q (won .place) ≡ 0 → ⊥) → (size : ℕ) (buffer : List ℕ)
           → size ≡ length (heardBytes (packet (won .dominant) id (flagOf q (won .place)) (countOf q (won .place)) sent))
           → buffer ≡ starting (heardBytes (packet (won .dominant) id (flagOf q (won .place)) (countOf q (won .place)) sent)) old
-          → GivesHeard request t q old (Packet size id (flagOf q (won .place)) events) buffer (set (q .lasts) (won .place) events)
+          → GivesHeard request t q old (Packet (won .dominant) size id (flagOf q (won .place)) events) buffer (set (q .lasts) (won .place) events)
       unfolding sentBy
       gives-packet some size buffer long written =
           let told = packet (won .dominant) id (flagOf q (won .place)) (countOf q (won .place)) in
           let many : events ≡ length sent = sym (queued-length events (slotsOf (q .slots) (won .place))) in
-          gives (told sent) (Packet size id (flagOf q (won .place)) events) buffer (set (q .lasts) (won .place) events)
+          gives (told sent) (Packet (won .dominant) size id (flagOf q (won .place)) events) buffer (set (q .lasts) (won .place) events)
           (ap told (sym sent-events)
           ∙ sym (ap (λ (b : Bool). pick b (nothing (won .dominant) id) (told (take (howManyFit (request .most) own) own))) (ne-eqb (countOf q (won .place)) 0 some))
           ∙ sent-is)
-          (ap₂ (λ (n k : ℕ). Packet n id (flagOf q (won .place)) k) long many) written
+          (ap₂ (λ (n k : ℕ). Packet (won .dominant) n id (flagOf q (won .place)) k) long many) written
           (ap (set (q .lasts) (won .place)) many)
 
 -- ---- behind its confirmation

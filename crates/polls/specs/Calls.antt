@@ -28,17 +28,18 @@ heardBytes silence = []
 heardBytes (nothing dominant id) = replicate dominant fill ++ noEventsFrame
 heardBytes (packet dominant id flag queued events) = replicate dominant fill ++ packetFrame id flag queued (map eventOf events)
 
--- what is answered: how many bytes, who sent them, and of a packet its flag and how many events it lists
+-- what is answered: how many FF it begins with, how many bytes it has, who sent them, and of a packet its flag and how many events
+-- it lists
 abbrev pub polledAs : Heard → Polled
 polledAs silence = Silent
-polledAs (nothing dominant id) = Nothing (length (heardBytes (nothing dominant id))) id
-polledAs (packet dominant id flag queued events) = Packet (length (heardBytes (packet dominant id flag queued events))) id flag (length events)
+polledAs (nothing dominant id) = Nothing dominant (length (heardBytes (nothing dominant id))) id
+polledAs (packet dominant id flag queued events) = Packet dominant (length (heardBytes (packet dominant id flag queued events))) id flag (length events)
 
--- the same as numbers: the subcommand, and then those
+-- the same as numbers: the subcommand, and then those; silence has none of them, so that no FF, no bytes and no sender are told
 abbrev pub polledNumbers : Polled → Numbers
-polledNumbers (Packet size sender flag events) = acceptedWith (eventPacket ∷ size ∷ sender ∷ flag ∷ events ∷ [])
-polledNumbers (Nothing size sender) = acceptedWith (noEvents ∷ size ∷ sender ∷ [])
-polledNumbers Silent = acceptedWith []
+polledNumbers (Packet skipped size sender flag events) = acceptedWith (eventPacket ∷ skipped ∷ size ∷ sender ∷ flag ∷ events ∷ [])
+polledNumbers (Nothing skipped size sender) = acceptedWith (noEvents ∷ skipped ∷ size ∷ sender ∷ [])
+polledNumbers Silent = acceptedWith (0 ∷ 0 ∷ 0 ∷ [])
 polledNumbers (Refused why) = refusedWith why
 
 -- what a call gives: the answer, the lent buffer and the queues afterwards, and the polls that it made

@@ -80,14 +80,17 @@ fn contend(
     let end = start + SLOTS_LENGTH;
     let events = packing::how_many_fit(count, request.most, &slots[start..end]);
     if count == 0 {
+        let skipped = won.dominant;
         return Polled::Nothing {
-            length: send_nothing(won.dominant, sender, answer),
+            skipped,
+            length: send_nothing(skipped, sender, answer),
             sender,
         };
     }
     let flag = flags[place];
     lasts[place] = events;
     Polled::Packet {
+        skipped: won.dominant,
         length: send(
             won.dominant,
             sender,

@@ -20,16 +20,18 @@ ghost use Rattle.polls.specs.Calls.{GivesPoll, pollCall, offerPollCall};
 // An answer buffer holds at least this: one FF for each of 12 windows, and the longest packet.
 pub const POLL_ROOM: usize = 116;
 
-// What a poll gives: how many bytes the answer at the start of the buffer has and who sent it, of a
-// packet with its flag and how many events it lists; silence; or the refusal.
+// What a poll gives: how many FF the answer at the start of the buffer begins with, how many bytes it
+// has and who sent it, of a packet with its flag and how many events it lists; silence; or the refusal.
 pub enum Polled {
     Packet {
+        skipped: usize,
         length: usize,
         sender: u8,
         flag: u8,
         events: u8,
     },
     Nothing {
+        skipped: usize,
         length: usize,
         sender: u8,
     },

@@ -2,7 +2,6 @@
 use crate::checks;
 use crate::escaping;
 use crate::exchanges;
-use crate::frames;
 use tally::Tally;
 use tally::none;
 
@@ -13,7 +12,6 @@ pub(crate) enum Lines {
     Expanding,
     Undoing,
     Exchanges,
-    Answers,
 }
 
 // Whether a line's case gives what it must, and where the next line begins.
@@ -29,7 +27,6 @@ fn case(of: Lines, text: &[u8], at: usize) -> Checked {
         Lines::Expanding => escaping::case(false, text, at),
         Lines::Undoing => escaping::case(true, text, at),
         Lines::Exchanges => exchanges::case(text, at),
-        Lines::Answers => frames::case(text, at),
     }
 }
 

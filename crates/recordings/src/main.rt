@@ -9,6 +9,7 @@ mod hearing;
 mod lines;
 mod polling;
 mod scans;
+mod script;
 
 fn main() {
     say_checks();
@@ -59,9 +60,14 @@ fn say_heard() {
 
 fn say_scans() {
     frames::published().say(b"answers, published");
+    frames::behind_fill().say(b"frames, FF before them");
+    frames::wrong_behind_fill().say(b"frames, FF before wrong ones");
+    frames::fill_within().say(b"frames, FF within them");
     scans::sizes().say(b"scans, 0 to 248 devices");
     scans::caps().say(b"scans, caps");
     scans::serials().say(b"scans, serials");
+    scans::fill().say(b"scans, FF");
+    scans::read_back().say(b"scans, answers read back");
 }
 
 fn say_polls() {
@@ -70,4 +76,5 @@ fn say_polls() {
     polling::events().say(b"events queued");
     polling::polls().say(b"polls");
     polling::waiting().say(b"polls, urgent before normal");
+    polling::fill().say(b"polls, FF");
 }

@@ -57,6 +57,9 @@ serialOver = 17
 abbrev pub queueFull : ℕ
 queueFull = 18
 
+abbrev pub fillOver : ℕ
+fillOver = 19
+
 abbrev pub digitWrong : ℕ
 digitWrong = 26
 

@@ -39,6 +39,8 @@ pub const FRAME_CHECK: u8 = 16;
 pub const SERIAL_OVER: u8 = 17;
 // A device's event queue is full.
 pub const QUEUE_FULL: u8 = 18;
+// More than 32 FF stand before an answer.
+pub const FILL_OVER: u8 = 19;
 // No hex digit stands where one is due.
 pub const DIGIT_WRONG: u8 = 26;
 

@@ -37,7 +37,7 @@ use Rattle.requests.specs.Writing.{writeRequest}
 use Rattle.answers.specs.Writing.{writeFound, writeEnd}
 use Rattle.requests.specs.declared.Request.{Request}
 use Rattle.requests.proofs.RoundTrip.{request-read-back, request-exact}
-use Rattle.answers.proofs.RoundTrip.{found-read-back, end-read-back, found-exact, end-exact}
+use Rattle.answers.proofs.RoundTrip.{found-read-back, end-read-back, fill-alone, over-refused, found-exact, end-exact}
 use Rattle.rulebook.specs.Rules.{OnWire, Idle}
 use Rattle.rulebook.specs.ReadBack.{commandBytes, replyBytes, Before, nothing, nacked-once, attemptsOf, firstTried, secondTried}
 use Rattle.rulebook.specs.Demand2.{Stands, Recorded, Filled, Shown, BusDemand, FrameDemand, Demand2}
@@ -267,6 +267,8 @@ frames =
       request-back = request-read-back;
       found-back = found-read-back;
       end-back = end-read-back;
+      fill-alone = fill-alone;
+      over-refused = over-refused;
       request-exact = request-exact;
       found-exact = found-exact;
       end-exact = end-exact;

@@ -11,6 +11,7 @@ use lib.Dec.{eqb}
 use lib.ListN.{length, getD, drop, replicate}
 use Rattle.lists.specs.Choice.{pick}
 use Rattle.lists.specs.Starting.{starting}
+use Rattle.refusal.specs.Number.{frameLength, fillOver, at-place}
 use Rattle.refusal.specs.Output.{Output, bytes, fitting, Wrote}
 use Rattle.refusal.specs.declared.Written.{Written}
 use Rattle.refusal.specs.declared.Written.the-variants.{Length, Refused as WriteRefused}
@@ -32,12 +33,12 @@ use Rattle.framing.specs.Layout.{serialLimit}
 use Rattle.requests.specs.Layout.{requestFrame}
 use Rattle.answers.specs.Layout.{foundFrame, endFrame}
 use Rattle.requests.specs.Reading.{readRequest}
-use Rattle.answers.specs.Reading.{fill, skipped, readAnswer}
+use Rattle.answers.specs.Reading.{fill, readAnswer}
 use Rattle.requests.specs.Writing.{writeRequest}
 use Rattle.answers.specs.Writing.{writeFound, writeEnd}
 use Rattle.requests.specs.declared.Request.{Request}
 use Rattle.requests.specs.declared.RequestRead.the-variants.{Asked}
-use Rattle.answers.specs.declared.AnswerRead.the-variants.{Found, End}
+use Rattle.answers.specs.declared.AnswerRead.the-variants.{Found, End, Refused as AnswerRefused}
 use Rattle.eventrequests.specs.Layout.{eventRequestFrame}
 use Rattle.eventrequests.specs.Writing.{writeEventRequest}
 use Rattle.eventrequests.specs.RoundTrip.{EventRequests}
@@ -171,15 +172,19 @@ pub record FrameDemand : Type 0 where
   pub found-only : (serial address room : ℕ) (raw : List ℕ) → writeFound serial address room ≡ bytes raw
       → (serial < serialLimit) × (raw ≡ foundFrame serial address) × (length raw ≤ room)
   pub end-only : (room : ℕ) (raw : List ℕ) → writeEnd room ≡ bytes raw → (raw ≡ endFrame) × (length raw ≤ room)
-  -- each frame is read back as what went into it; an answer behind any number of FF
+  -- each frame is read back as what went into it; an answer behind up to 32 FF, which are counted
   pub request-back : (request : Request) → readRequest (requestFrame request) ≡ Asked request
-  pub found-back : (n serial address : ℕ) → serial < serialLimit → readAnswer (replicate n fill ++ foundFrame serial address) ≡ Found serial address
-  pub end-back : (n : ℕ) → readAnswer (replicate n fill ++ endFrame) ≡ End
-  -- what is accepted is the frame that is written for what was read; an answer's, behind the FF that were passed over
+  pub found-back : (n serial address : ℕ) → n ≤ 32 → serial < serialLimit → readAnswer (replicate n fill ++ foundFrame serial address) ≡ Found n serial address
+  pub end-back : (n : ℕ) → n ≤ 32 → readAnswer (replicate n fill ++ endFrame) ≡ End n
+  -- up to 32 FF with nothing behind them are a wrong length
+  pub fill-alone : (n : ℕ) → n ≤ 32 → readAnswer (replicate n fill) ≡ AnswerRefused (at-place frameLength 0)
+  -- a 33rd FF is refused at its place, whatever follows it
+  pub over-refused : (n : ℕ) (rest : List ℕ) → 32 < n → readAnswer (replicate n fill ++ rest) ≡ AnswerRefused (at-place fillOver 32)
+  -- what is accepted is the frame that is written for what was read; an answer's, behind as many FF as are counted
   pub request-exact : (input : List ℕ) (request : Request) → readRequest input ≡ Asked request → input ≡ requestFrame request
-  pub found-exact : (input : List ℕ) (serial address : ℕ) → ((i : ℕ) → getD input i 0 < 256) → readAnswer input ≡ Found serial address
-      → (serial < serialLimit) × (input ≡ replicate (skipped input) fill ++ foundFrame serial address)
-  pub end-exact : (input : List ℕ) → readAnswer input ≡ End → input ≡ replicate (skipped input) fill ++ endFrame
+  pub found-exact : (input : List ℕ) (n serial address : ℕ) → ((i : ℕ) → getD input i 0 < 256) → readAnswer input ≡ Found n serial address
+      → (n ≤ 32) × (serial < serialLimit) × (input ≡ replicate n fill ++ foundFrame serial address)
+  pub end-exact : (input : List ℕ) (n : ℕ) → readAnswer input ≡ End n → (n ≤ 32) × (input ≡ replicate n fill ++ endFrame)
 
 -- ---- the frames of event polling
 
@@ -191,7 +196,7 @@ pub record EventDemand : Type 0 where
   pub request-only : (request : EventRequest) (room : ℕ) (raw : List ℕ) → writeEventRequest request room ≡ bytes raw → (raw ≡ eventRequestFrame request) × (length raw ≤ room)
   pub nothing-only : (room : ℕ) (raw : List ℕ) → writeNoEvents room ≡ bytes raw → (raw ≡ noEventsFrame) × (length raw ≤ room)
   -- read back as what went in, and nothing else accepted: requests (eventrequests/RoundTrip), and packets with their events and that
-  -- nobody has any, behind any number of FF (packets/RoundTrip)
+  -- nobody has any, behind up to 32 FF, which are counted (packets/RoundTrip)
   pub requests : EventRequests
   pub packets : EventPackets
 

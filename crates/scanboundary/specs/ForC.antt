@@ -31,7 +31,7 @@ requestForC x =
 abbrev pub answerForC : AnswerRead → MoorAnswerRead
 answerForC x =
     let n = answerNumbers x in
-    record { number = n .number; answer = value n 0; address = value n 2; serial = value n 1; place = n .place }
+    record { number = n .number; answer = value n 0; address = value n 3; serial = value n 2; place = n .place; skipped = value n 1 }
 
 -- the key that remains and the dominant windows; who has that key is not told
 abbrev pub decidedForC : Decided → MoorDecided
@@ -40,11 +40,11 @@ decidedForC d = record { key = d .key; dominant = d .dominant }
 abbrev pub scannedForC : Scanned → ℕ → MoorScanned
 scannedForC x heard =
     let n = scannedNumbers x heard in
-    record { number = n .number; end = value n 0; place = n .place; requests = value n 1; found = value n 2 }
+    record { number = n .number; end = value n 0; place = n .place; requests = value n 1; found = value n 2; skipped = value n 3 }
 
 -- how many devices were heard by a scan's answer alone: one less than the requests where the last one found no device
 abbrev pub foundBy : Scanned → ℕ
-foundBy (Complete n) = n - 1
-foundBy (Nobody n) = n - 1
-foundBy (Unfinished n) = n
+foundBy (Complete sent skipped) = sent - 1
+foundBy (Nobody sent skipped) = sent - 1
+foundBy (Unfinished sent skipped) = sent
 foundBy (Refused why) = 0

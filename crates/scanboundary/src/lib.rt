@@ -41,7 +41,8 @@ pub struct MoorRequestRead {
     pub place: usize,
 }
 
-// An answer that was read: a device found with serial and address, or the end.
+// An answer that was read: a device found with serial and address, or the end, and how many FF were
+// passed over.
 #[repr(C)]
 pub struct MoorAnswerRead {
     pub number: u8,
@@ -49,6 +50,7 @@ pub struct MoorAnswerRead {
     pub address: u8,
     pub serial: u32,
     pub place: usize,
+    pub skipped: usize,
 }
 
 // The key that remains, and how many windows were dominant.
@@ -58,7 +60,8 @@ pub struct MoorDecided {
     pub dominant: usize,
 }
 
-// A whole scan: how it ended, the requests sent, and how many devices were heard.
+// A whole scan: how it ended, the requests sent, how many devices were heard, and how many FF stood
+// before its answers.
 #[repr(C)]
 pub struct MoorScanned {
     pub number: u8,
@@ -66,6 +69,7 @@ pub struct MoorScanned {
     pub place: usize,
     pub requests: usize,
     pub found: usize,
+    pub skipped: usize,
 }
 
 pub fn response_for_c(x: Response) -> MoorWritten
@@ -104,30 +108,37 @@ pub fn request_for_c(x: RequestRead) -> MoorRequestRead
     }
 }
 
+// An answer that was accepted.
+fn accepted(answer: u8, address: u8, serial: u32, skipped: usize) -> MoorAnswerRead
+    ensures { λ r. ⌜ r ≡ record { number = 0; answer = answer; address = address; serial = serial; place = 0; skipped = skipped } ⌝ }
+{
+    MoorAnswerRead {
+        number: 0,
+        answer,
+        address,
+        serial,
+        place: 0,
+        skipped,
+    }
+}
+
 pub fn answer_for_c(x: AnswerRead) -> MoorAnswerRead
     ensures { λ r. ⌜ r ≡ answerForC x ⌝ }
 {
     match x {
-        AnswerRead::Found { serial, address } => MoorAnswerRead {
-            number: 0,
-            answer: FOUND,
-            address,
+        AnswerRead::Found {
+            skipped,
             serial,
-            place: 0,
-        },
-        AnswerRead::End => MoorAnswerRead {
-            number: 0,
-            answer: END,
-            address: 0,
-            serial: 0,
-            place: 0,
-        },
+            address,
+        } => accepted(FOUND, address, serial, skipped),
+        AnswerRead::End { skipped } => accepted(END, 0, 0, skipped),
         AnswerRead::Refused(why) => MoorAnswerRead {
             number: why.number,
             answer: 0,
             address: 0,
             serial: 0,
             place: why.place,
+            skipped: 0,
         },
     }
 }
@@ -141,8 +152,8 @@ pub fn decided_for_c(x: Decided) -> MoorDecided
     }
 }
 
-fn scan_ended(end: u8, requests: usize, found: usize) -> MoorScanned
-    ensures { λ r. ⌜ r ≡ record { number = 0; end = end; place = 0; requests = requests; found = found } ⌝ }
+fn scan_ended(end: u8, requests: usize, found: usize, skipped: usize) -> MoorScanned
+    ensures { λ r. ⌜ r ≡ record { number = 0; end = end; place = 0; requests = requests; found = found; skipped = skipped } ⌝ }
 {
     MoorScanned {
         number: 0,
@@ -150,6 +161,7 @@ fn scan_ended(end: u8, requests: usize, found: usize) -> MoorScanned
         place: 0,
         requests,
         found,
+        skipped,
     }
 }
 
@@ -169,15 +181,22 @@ pub fn scanned_for_c(x: Scanned) -> MoorScanned
     ensures { λ r. ⌜ r ≡ scannedForC x (foundBy x) ⌝ }
 {
     match x {
-        Scanned::Complete(requests) => scan_ended(COMPLETE, requests, one_less(requests)),
-        Scanned::Nobody(requests) => scan_ended(NOBODY, requests, one_less(requests)),
-        Scanned::Unfinished(requests) => scan_ended(UNFINISHED, requests, requests),
+        Scanned::Complete { requests, skipped } => {
+            scan_ended(COMPLETE, requests, one_less(requests), skipped)
+        }
+        Scanned::Nobody { requests, skipped } => {
+            scan_ended(NOBODY, requests, one_less(requests), skipped)
+        }
+        Scanned::Unfinished { requests, skipped } => {
+            scan_ended(UNFINISHED, requests, requests, skipped)
+        }
         Scanned::Refused(why) => MoorScanned {
             number: why.number,
             end: 0,
             place: why.place,
             requests: 0,
             found: 0,
+            skipped: 0,
         },
     }
 }

@@ -20,7 +20,7 @@ use Rattle.requests.specs.declared.RequestRead.the-variants.{Asked, Refused as 
 use Rattle.table.specs.Table.{Table, devices, valid}
 use Rattle.turns.specs.Request.{Turn, respond}
 use Rattle.devices.specs.Calls.{Answering, answerRoom, refusing, responseTo, answering, reading, askCall}
-use Rattle.devices.specs.WholeScan.{scanFrom, closedBy, closing, Scanning, concluded, scanRefusing, scanCall}
+use Rattle.devices.specs.WholeScan.{scanFrom, closedBy, fillHeard, closing, Scanning, concluded, scanRefusing, scanCall}
 use Rattle.turns.specs.declared.Answer.{Answer}
 use Rattle.turns.specs.declared.Answer.the-variants.{Silence, Found, End}
 use Rattle.guard.proofs.GuardCases.{guard-short, guard-passes}
@@ -61,12 +61,12 @@ module _ (read : RequestRead) (buffer : List ℕ) (t : Table) (v : valid t ≡ t
       ap (λ (a : Answering). refusalIn (a .response)) (ask-enough h) ∙ reading-due read buffer t ∙ sym (enough-is answerRoom (length buffer) (readerRefusal read) h))
 
 -- a scan that was made is not refused
-closing-not-refused : (turns : List Turn) (n : ℕ) → scanRefusalIn (closing turns n) ≡ none
+closing-not-refused : (turns : List Turn) (n f : ℕ) → scanRefusalIn (closing turns n f) ≡ none
 unfolding closing
-closing-not-refused [] n = refl
-closing-not-refused (turn ∷ turns) n = go (turn .answer) (closing-not-refused turns n)
+closing-not-refused [] n f = refl
+closing-not-refused (turn ∷ turns) n f = go (turn .answer) (closing-not-refused turns n f)
   where
-    go : (answer : Answer) → scanRefusalIn (closing turns n) ≡ none → scanRefusalIn (closedBy answer (closing turns) n) ≡ none
+    go : (answer : Answer) → scanRefusalIn (closing turns n f) ≡ none → scanRefusalIn (closedBy answer (closing turns) n f) ≡ none
     go (Found d s a) h = h
     go (End d) h = refl
     go Silence h = refl
@@ -85,7 +85,7 @@ module _ (cap : ℕ) (serials addresses : List ℕ) (t : Table) (v : valid t ≡
       ap (λ (s : Scanning). scanRefusalIn (s .scanned)) (scan-short h) ∙ sym (short-is (devices t) (min (length serials) (length addresses)) none h))
       (λ e. let h = ltb-false (min (length serials) (length addresses)) (devices t) e in
       ap (λ (s : Scanning). scanRefusalIn (s .scanned)) (scan-enough h)
-      ∙ closing-not-refused (scanFrom cap Start t) (length (scanFrom cap Start t))
+      ∙ closing-not-refused (scanFrom cap Start t) (length (scanFrom cap Start t)) (fillHeard (scanFrom cap Start t))
       ∙ sym (enough-is (devices t) (min (length serials) (length addresses)) none h))
 
 pub refusals-due : (call : Call) (t : Table) → valid t ≡ true → refusalOf (step call t) ≡ refusalDue (devices t) call

@@ -48,7 +48,7 @@ onward-made (Found d s a) later t h = h
 onward-made (End d) later t h = none-made t
 onward-made Silence later t h = none-made t
 
-scan-made : (k : ℕ) (request : Request) (t : Table) → Linked t (scanFrom k request t) (leftBy (scanFrom k request t) t)
+pub scan-made : (k : ℕ) (request : Request) (t : Table) → Linked t (scanFrom k request t) (leftBy (scanFrom k request t) t)
 unfolding scanFrom leftBy Linked respond
 scan-made zero request t = refl
 scan-made (suc k) request t =

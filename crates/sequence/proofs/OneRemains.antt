@@ -3,7 +3,7 @@
 use mathlib.Core.Path.{_≡_, refl, sym, ap, ap₂, _∙_, subst}
 use mathlib.Core.Bool.{Bool, true, false}
 use mathlib.Core.List.{List, [], _∷_, _++_}
-use Prim.Native.Nat.{ℕ, zero, suc, _<_, _^_}
+use Prim.Native.Nat.{ℕ, zero, suc, _≤_, _<_, _^_}
 use native.Mathlib.Omega.{arith}
 use lib.Dec.{eqb}
 use lib.ListN.{length, getD, replicate}
@@ -12,14 +12,17 @@ use Rattle.lists.specs.Choice.{pick}
 use Rattle.lists.specs.Tests.{keep, position}
 use Rattle.arbitration.specs.Contest.{remaining, dominantWindows, contending, decided}
 use Rattle.arbitration.specs.declared.Decided.{Decided}
-use Rattle.arbitration.proofs.Contenders.{all-contend}
+use Rattle.arbitration.proofs.Contenders.{all-contend, dominant-le}
 use Rattle.arbitration.proofs.SmallestWins.{contest-law, some-smallest}
 use Rattle.answers.specs.Layout.{foundFrame, endFrame}
-use Rattle.answers.specs.Reading.{fill}
+use Rattle.answers.specs.Reading.{fill, mostFill, readAnswer}
+use Rattle.answers.specs.declared.AnswerRead.the-variants.{Found as FoundRead, End as EndRead}
+use Rattle.answers.proofs.RoundTrip.{found-read-back, end-read-back}
 use Rattle.requests.specs.declared.Request.{Request}
-use Rattle.table.specs.Table.{Table, devices, valid}
+use Rattle.table.specs.Table.{Table, devices, valid, serialLimit}
 use Rattle.turns.specs.Request.{key, keys, windows, contest, contend, standing, respond}
 use Rattle.devices.specs.Calls.{answerBytes}
+use Rattle.turns.specs.declared.Answer.{Answer}
 use Rattle.turns.specs.declared.Answer.the-variants.{Found, End}
 use Rattle.turns.proofs.Keys.{same-serial, keys-length, keys-at}
 use Rattle.table.proofs.Meaning.{tested, serial-below, same-device}
@@ -81,18 +84,29 @@ module _ (t : Table) (v : valid t ≡ true) (somebody : 0 < devices t) where
   either-bytes true d serial address = refl
   either-bytes false d serial address = refl
 
+  -- .. and what is read from them
+  either-read : (b : Bool) (d serial address : ℕ) → d ≤ mostFill → serial < serialLimit
+      → readAnswer (answerBytes (pick b (Found d serial address) (End d))) ≡ pick b (FoundRead d serial address) (EndRead d)
+  unfolding answerBytes
+  either-read true d serial address few below = found-read-back d serial address few below
+  either-read false d serial address few below = end-read-back d few
+
   alone : Contested t (contend t)
   alone =
       let some : devices t ≡ 0 → ⊥ = λ none. omega arith in
+      let inside = place-inside t v some in
       let is =
       not-silent t some
       ∙ ap (λ (d : ℕ). pick (eqb (markAt t (contest t .place)) 0) (Found d (serialAt t (contest t .place)) (addressAt t (contest t .place))) (End d)) dominant-is in
       record {
         place = contest t .place;
-        inside = place-inside t v some;
+        inside = inside;
         alone = one-remains;
         answers = is;
         written = ap answerBytes is ∙ either-bytes (eqb (markAt t (contest t .place)) 0) (dominantWindows windows (keys t)) (serialAt t (contest t .place)) (addressAt t (contest t .place));
+        read = ap (λ (a : Answer). readAnswer (answerBytes a)) is
+            ∙ either-read (eqb (markAt t (contest t .place)) 0) (dominantWindows windows (keys t)) (serialAt t (contest t .place)) (addressAt t (contest t .place))
+            (dominant-le windows (keys t)) (serial-below t (tested t v) (contest t .place) inside);
       }
 
 pub contested : (request : Request) (t : Table) → valid t ≡ true → 0 < devices t → Contested (standing request t) (respond request t .answer)

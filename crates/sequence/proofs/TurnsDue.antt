@@ -12,11 +12,12 @@ use lib.Seq.{getD-append-seam}
 use borrow.Author.Tests.{ltb-true, ltb-false}
 use Rattle.lists.proofs.Cases.{by-test}
 use Rattle.arbitration.specs.Smallest.{zeroBits}
+use Rattle.arbitration.proofs.Contenders.{zeros-le}
 use Rattle.answers.specs.Layout.{foundFrame, endFrame}
 use Rattle.answers.specs.Reading.{fill, readAnswer}
 use Rattle.requests.specs.declared.Request.{Request}
 use Rattle.requests.specs.declared.Request.the-variants.{Start, Continue}
-use Rattle.answers.specs.declared.AnswerRead.the-variants.{Found as FoundRead}
+use Rattle.answers.specs.declared.AnswerRead.the-variants.{Found as FoundRead, End as EndRead}
 use Rattle.answers.proofs.RoundTrip.{found-read-back, end-read-back}
 use Rattle.table.specs.Table.{Table, devices, marked, valid}
 use Rattle.turns.specs.Request.{Turn, key, windows, contend, tableAfter, respond}
@@ -42,11 +43,11 @@ snoc-last l a k e = ap (λ (n : ℕ). getD (l ++ a ∷ []) n 0) e ∙ getD-appen
 
 module _ (t : Table) (answer : Answer) (place : ℕ) (inside : place < devices t) where
   pub found-read : valid t ≡ true → answer ≡ Found (zeroBits windows (key 0 (serialAt t place))) (serialAt t place) (addressAt t place)
-      → readAnswer (answerBytes answer) ≡ FoundRead (serialAt t place) (addressAt t place)
+      → readAnswer (answerBytes answer) ≡ FoundRead (zeroBits windows (key 0 (serialAt t place))) (serialAt t place) (addressAt t place)
   unfolding answerBytes
   found-read v e =
       ap (λ (a : Answer). readAnswer (answerBytes a)) e
-      ∙ found-read-back (zeroBits windows (key 0 (serialAt t place))) (serialAt t place) (addressAt t place) (serial-below t (tested t v) place inside)
+      ∙ found-read-back (zeroBits windows (key 0 (serialAt t place))) (serialAt t place) (addressAt t place) (zeros-le windows (key 0 (serialAt t place))) (serial-below t (tested t v) place inside)
 
   found-due : (k : ℕ) → valid t ≡ true → rank t place ≡ k
       → answer ≡ Found (zeroBits windows (key 0 (serialAt t place))) (serialAt t place) (addressAt t place) → FoundDue t (suc k) answer
@@ -62,12 +63,18 @@ module _ (t : Table) (answer : Answer) (place : ℕ) (inside : place < devices t
         read = found-read v e;
       }
 
-  pub end-due : rank t place ≡ 0 → answer ≡ End (zeroBits windows (key 1 (serialAt t place))) → EndDue t answer
+  pub end-read : answer ≡ End (zeroBits windows (key 1 (serialAt t place))) → readAnswer (answerBytes answer) ≡ EndRead (zeroBits windows (key 1 (serialAt t place)))
+  unfolding answerBytes
+  end-read e =
+      ap (λ (a : Answer). readAnswer (answerBytes a)) e
+      ∙ end-read-back (zeroBits windows (key 1 (serialAt t place))) (zeros-le windows (key 1 (serialAt t place)))
+
+  end-due : rank t place ≡ 0 → answer ≡ End (zeroBits windows (key 1 (serialAt t place))) → EndDue t answer
   unfolding answerBytes
   end-due r e =
       let dominant = zeroBits windows (key 1 (serialAt t place)) in
       let bytes : answerBytes answer ≡ replicate dominant fill ++ endFrame = ap answerBytes e in
-      record { place = place; inside = inside; smallest = r; written = bytes; read = ap readAnswer bytes ∙ end-read-back dominant }
+      record { place = place; inside = inside; smallest = r; written = bytes; read = end-read e }
 
 -- ---- what holds between requests
 

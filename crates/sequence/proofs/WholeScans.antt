@@ -2,13 +2,13 @@
 -- Assumes nothing.
 use mathlib.Core.Path.{_≡_, refl, sym, ap, ap₂, _∙_, subst}
 use mathlib.Core.Logic.{⊎-elim}
-use mathlib.Core.Bool.{Bool, true}
+use mathlib.Core.Bool.{Bool, true, false}
 use mathlib.Core.List.{List, [], _∷_, _++_, map}
 use mathlib.Core.Option.{none}
-use Prim.Native.Nat.{ℕ, zero, suc, _+_, _-_, _≤_, _<_, min}
+use Prim.Native.Nat.{ℕ, zero, suc, _+_, _-_, _*_, _≤_, _<_, min}
 use native.Mathlib.Nat.{sub-zero}
 use native.Mathlib.Omega.{arith}
-use lib.Dec.{ltb}
+use lib.Dec.{eqb, ltb}
 use lib.ListN.{length, getD, take, drop, replicate, length-append, List·getD-append}
 use lib.Seq.{drop-at}
 use borrow.Author.Tests.{lt-ltb, le-ltb, ltb-true, ltb-false}
@@ -17,15 +17,16 @@ use Rattle.lists.proofs.Filling.{length-starting}
 use Rattle.lists.specs.Choice.{pick}
 use Rattle.lists.specs.Starting.{starting}
 use Rattle.arbitration.specs.Smallest.{zeroBits}
+use Rattle.arbitration.proofs.Contenders.{dominant-le}
 use Rattle.answers.specs.Reading.{readAnswer}
 use Rattle.requests.specs.declared.Request.{Request}
 use Rattle.requests.specs.declared.Request.the-variants.{Start, Continue}
 use Rattle.answers.specs.declared.AnswerRead.{AnswerRead}
 use Rattle.answers.specs.declared.AnswerRead.the-variants.{Found as FoundRead, End as EndRead}
 use Rattle.table.specs.Table.{Table, devices, marked, valid}
-use Rattle.turns.specs.Request.{Turn, key, windows, contend, tableAfter, standing, respond}
+use Rattle.turns.specs.Request.{Turn, key, keys, windows, contend, tableAfter, standing, respond}
 use Rattle.devices.specs.Calls.{answerBytes}
-use Rattle.devices.specs.WholeScan.{onward, scanFrom, serialsHeard, addressesHeard, closing, Scanning, concluded, scanCall}
+use Rattle.devices.specs.WholeScan.{onward, scanFrom, leftBy, serialsHeard, addressesHeard, fillOf, fillHeard, closing, Scanning, concluded, scanCall}
 use Rattle.turns.specs.Rank.{rank}
 use Rattle.turns.specs.declared.Answer.{Answer}
 use Rattle.turns.specs.declared.Answer.the-variants.{Silence, Found, End}
@@ -33,11 +34,13 @@ use Rattle.devices.specs.declared.Scanned.the-variants.{Complete, Unfinished}
 use Rattle.turns.proofs.TurnKeeps.{standing-valid, respond-valid, respond-columns}
 use Rattle.table.proofs.Meaning.{tested}
 use Rattle.devices.proofs.ScanSteps.{answered, scan-step}
-use Rattle.sequence.specs.Calls.{scan, counted, sinceStart, refusalDue}
-use Rattle.sequence.specs.Sequence.{serialAt, addressAt, ScanDue}
+use Rattle.sequence.specs.Calls.{scan, Linked, counted, sinceStart, refusalDue}
+use Rattle.sequence.specs.Sequence.{serialAt, addressAt, markAt, dominantIn, dominantOver, ScanDue}
 use Rattle.sequence.proofs.Ranks.{same-test}
 use Rattle.sequence.proofs.MarksInOrder.{Ordered, ordered-cleared, FoundAs, EndAs, turn-of}
-use Rattle.sequence.proofs.TurnsDue.{found-read, end-due}
+use Rattle.sequence.proofs.TurnsDue.{found-read, end-read, reached}
+use Rattle.sequence.proofs.OneRemains.{contested}
+use Rattle.sequence.proofs.CallTurns.{scan-made}
 use Rattle.sequence.proofs.CallRefusals.{scan-enough, scan-room}
 
 -- the entry that stands at a place of the two lists of what was heard
@@ -45,30 +48,30 @@ abbrev Entry : Table → List ℕ → List ℕ → ℕ → ℕ → Type 0
 Entry t serials addresses j k =
     (place : ℕ) × (place < devices t) × (rank t place ≡ k) × (getD serials j 0 ≡ serialAt t place) × (getD addresses j 0 ≡ addressAt t place)
 
--- what is read from the answer to request j, where so many devices are left
-abbrev Read : List ℕ → List ℕ → ℕ → ℕ → AnswerRead
-Read serials addresses j left = pick (ltb j left) (FoundRead (getD serials j 0) (getD addresses j 0)) EndRead
+-- what is read from the answer to request j, behind so many FF, where so many devices are left
+abbrev Read : ℕ → List ℕ → List ℕ → ℕ → ℕ → AnswerRead
+Read d serials addresses j left = pick (ltb j left) (FoundRead d (getD serials j 0) (getD addresses j 0)) (EndRead d)
 
 -- a scan from here on, with k devices named before and so many requests left under the cap
 record Scans (t : Table) (cap k : ℕ) (turns : List Turn) : Type 0 where
   sent : length turns ≡ min cap (devices t + 1 - k)
   heard : length (serialsHeard turns) ≡ min cap (devices t - k)
   beside : length (addressesHeard turns) ≡ min cap (devices t - k)
-  closes : (n : ℕ) → closing turns n ≡ pick (ltb (devices t - k) cap) (Complete n) (Unfinished n)
+  closes : (n f : ℕ) → closing turns n f ≡ pick (ltb (devices t - k) cap) (Complete n f) (Unfinished n f)
   entry : (j : ℕ) → j < min cap (devices t - k) → Entry t (serialsHeard turns) (addressesHeard turns) j (k + j)
   read : (earlier later : List Turn) (turn : Turn) → turns ≡ earlier ++ turn ∷ later
-      → readAnswer (answerBytes (turn .answer)) ≡ Read (serialsHeard turns) (addressesHeard turns) (length earlier) (devices t - k)
+      → readAnswer (answerBytes (turn .answer)) ≡ Read (fillOf (turn .answer)) (serialsHeard turns) (addressesHeard turns) (length earlier) (devices t - k)
 
 -- the number answered is the number sent
-count-of : (cap n sent : ℕ) → sent ≡ min cap (n + 1) → pick (ltb n cap) (Complete sent) (Unfinished sent) ≡ pick (ltb n cap) (Complete (n + 1)) (Unfinished cap)
-count-of cap n sent e =
+count-of : (cap n sent f : ℕ) → sent ≡ min cap (n + 1) → pick (ltb n cap) (Complete sent f) (Unfinished sent f) ≡ pick (ltb n cap) (Complete (n + 1) f) (Unfinished cap f)
+count-of cap n sent f e =
     by-test (ltb n cap)
     (λ b. let h = ltb-true n cap b in
     let all : sent ≡ n + 1 = omega arith in
-    ap (λ (x : Bool). pick x (Complete sent) (Unfinished sent)) b ∙ ap Complete all ∙ ap (λ (x : Bool). pick x (Complete (n + 1)) (Unfinished cap)) (sym b))
+    ap (λ (x : Bool). pick x (Complete sent f) (Unfinished sent f)) b ∙ ap (λ (k : ℕ). Complete k f) all ∙ ap (λ (x : Bool). pick x (Complete (n + 1) f) (Unfinished cap f)) (sym b))
     (λ b. let h = ltb-false n cap b in
     let part : sent ≡ cap = omega arith in
-    ap (λ (x : Bool). pick x (Complete sent) (Unfinished sent)) b ∙ ap Unfinished part ∙ ap (λ (x : Bool). pick x (Complete (n + 1)) (Unfinished cap)) (sym b))
+    ap (λ (x : Bool). pick x (Complete sent f) (Unfinished sent f)) b ∙ ap (λ (k : ℕ). Unfinished k f) part ∙ ap (λ (x : Bool). pick x (Complete (n + 1) f) (Unfinished cap f)) (sym b))
 
 -- ---- which requests are sent, and what they count for
 
@@ -135,19 +138,19 @@ module _ (t : Table) (v₀ : valid t ≡ true) (somebody : 0 < devices t) where
         sent = omega arith;
         heard = omega arith;
         beside = omega arith;
-        closes = λ n. ap (λ (b : Bool). pick b (Complete n) (Unfinished n)) (sym (le-ltb (devices t - k) 0 (omega arith)));
+        closes = λ n f. ap (λ (b : Bool). pick b (Complete n f) (Unfinished n f)) (sym (le-ltb (devices t - k) 0 (omega arith)));
         entry = λ j h. let z : ⊥ = omega arith in absurd z;
         read = nothing;
       }
     where
-      nothing : (earlier later : List Turn) (turn : Turn) → [] ≡ earlier ++ turn ∷ later → readAnswer (answerBytes (turn .answer)) ≡ Read [] [] (length earlier) (devices t - k)
+      nothing : (earlier later : List Turn) (turn : Turn) → [] ≡ earlier ++ turn ∷ later → readAnswer (answerBytes (turn .answer)) ≡ Read (fillOf (turn .answer)) [] [] (length earlier) (devices t - k)
       nothing [] later turn same = let z : _≡_ {A = ℕ} 0 1 = cc in absurd (let w : ⊥ = omega arith in w)
       nothing (x ∷ xs) later turn same = let z : _≡_ {A = ℕ} 0 1 = cc in absurd (let w : ⊥ = omega arith in w)
 
   module _ (cap k : ℕ) (turn : Turn) where
     -- a device answers, and the scan goes on
     found-first : (place d : ℕ) (later : List Turn) → k < devices t → place < devices t → rank t place ≡ k
-        → readAnswer (answerBytes (Found d (serialAt t place) (addressAt t place))) ≡ FoundRead (serialAt t place) (addressAt t place)
+        → readAnswer (answerBytes (Found d (serialAt t place) (addressAt t place))) ≡ FoundRead d (serialAt t place) (addressAt t place)
         → Scans t cap (suc k) later → Scans t (suc cap) k (answered turn (Found d (serialAt t place) (addressAt t place)) ∷ later)
     unfolding serialsHeard addressesHeard closing
     found-first place d later left inside r reads s =
@@ -155,7 +158,7 @@ module _ (t : Table) (v₀ : valid t ≡ true) (somebody : 0 < devices t) where
           sent = omega (arith, s .sent);
           heard = omega (arith, s .heard);
           beside = omega (arith, s .beside);
-          closes = λ n. s .closes n ∙ ap (λ (b : Bool). pick b (Complete n) (Unfinished n)) (same-test (devices t - suc k) cap (devices t - k) (suc cap) (λ h. omega arith) (λ h. omega arith));
+          closes = λ n f. s .closes n f ∙ ap (λ (b : Bool). pick b (Complete n f) (Unfinished n f)) (same-test (devices t - suc k) cap (devices t - k) (suc cap) (λ h. omega arith) (λ h. omega arith));
           entry = entries;
           read = each;
         }
@@ -168,36 +171,38 @@ module _ (t : Table) (v₀ : valid t ≡ true) (somebody : 0 < devices t) where
             (rest .0, rest .1, omega (arith, rest .2), rest .3, rest .4)
 
         each : (earlier following : List Turn) (x : Turn) → answered turn (Found d (serialAt t place) (addressAt t place)) ∷ later ≡ earlier ++ x ∷ following
-            → readAnswer (answerBytes (x .answer)) ≡ Read (serialAt t place ∷ serialsHeard later) (addressAt t place ∷ addressesHeard later) (length earlier) (devices t - k)
+            → readAnswer (answerBytes (x .answer)) ≡ Read (fillOf (x .answer)) (serialAt t place ∷ serialsHeard later) (addressAt t place ∷ addressesHeard later) (length earlier) (devices t - k)
         each [] following x same =
             let here : answered turn (Found d (serialAt t place) (addressAt t place)) ≡ x = cc in
             ap (λ (y : Turn). readAnswer (answerBytes (y .answer))) (sym here) ∙ reads
-            ∙ ap (λ (b : Bool). pick b (FoundRead (serialAt t place) (addressAt t place)) EndRead) (sym (lt-ltb 0 (devices t - k) (omega arith)))
+            ∙ ap (λ (b : Bool). pick b (FoundRead d (serialAt t place) (addressAt t place)) (EndRead d)) (sym (lt-ltb 0 (devices t - k) (omega arith)))
+            ∙ ap (λ (y : Turn). Read (fillOf (y .answer)) (serialAt t place ∷ serialsHeard later) (addressAt t place ∷ addressesHeard later) 0 (devices t - k)) here
         each (y ∷ ys) following x same =
             let rest : later ≡ ys ++ x ∷ following = cc in
             s .read ys following x rest
-            ∙ ap (λ (b : Bool). pick b (FoundRead (getD (serialsHeard later) (length ys) 0) (getD (addressesHeard later) (length ys) 0)) EndRead)
+            ∙ ap (λ (b : Bool). pick b (FoundRead (fillOf (x .answer)) (getD (serialsHeard later) (length ys) 0) (getD (addressesHeard later) (length ys) 0)) (EndRead (fillOf (x .answer))))
             (same-test (length ys) (devices t - suc k) (suc (length ys)) (devices t - k) (λ h. omega arith) (λ h. omega arith))
 
     -- the end is heard, and the scan is over
-    end-first : (d : ℕ) → k ≡ devices t → readAnswer (answerBytes (End d)) ≡ EndRead → Scans t (suc cap) k (answered turn (End d) ∷ [])
+    end-first : (d : ℕ) → k ≡ devices t → readAnswer (answerBytes (End d)) ≡ EndRead d → Scans t (suc cap) k (answered turn (End d) ∷ [])
     unfolding serialsHeard addressesHeard closing
     end-first d all reads =
         record {
           sent = omega arith;
           heard = omega arith;
           beside = omega arith;
-          closes = λ n. ap (λ (b : Bool). pick b (Complete n) (Unfinished n)) (sym (lt-ltb (devices t - k) (suc cap) (omega arith)));
+          closes = λ n f. ap (λ (b : Bool). pick b (Complete n f) (Unfinished n f)) (sym (lt-ltb (devices t - k) (suc cap) (omega arith)));
           entry = λ j h. let z : ⊥ = omega arith in absurd z;
           read = each;
         }
       where
         each : (earlier following : List Turn) (x : Turn) → answered turn (End d) ∷ [] ≡ earlier ++ x ∷ following
-            → readAnswer (answerBytes (x .answer)) ≡ Read [] [] (length earlier) (devices t - k)
+            → readAnswer (answerBytes (x .answer)) ≡ Read (fillOf (x .answer)) [] [] (length earlier) (devices t - k)
         each [] following x same =
             let here : answered turn (End d) ≡ x = cc in
             ap (λ (y : Turn). readAnswer (answerBytes (y .answer))) (sym here) ∙ reads
-            ∙ ap (λ (b : Bool). pick b (FoundRead 0 0) EndRead) (sym (le-ltb 0 (devices t - k) (omega arith)))
+            ∙ ap (λ (b : Bool). pick b (FoundRead d 0 0) (EndRead d)) (sym (le-ltb 0 (devices t - k) (omega arith)))
+            ∙ ap (λ (y : Turn). Read (fillOf (y .answer)) [] [] 0 (devices t - k)) here
         each (y ∷ []) following x same = let z : _≡_ {A = ℕ} 0 1 = cc in absurd (let w : ⊥ = omega arith in w)
         each (y ∷ z ∷ zs) following x same = let w : _≡_ {A = ℕ} 0 1 = cc in absurd (let u : ⊥ = omega arith in u)
 
@@ -232,7 +237,7 @@ module _ (t : Table) (v₀ : valid t ≡ true) (somebody : 0 < devices t) where
     by-end f =
         let d = zeroBits windows (key 1 (serialAt t (f .place))) in
         subst (Scans t (suc cap) k) (sym (scan-step cap request now (End d) (answer-same ∙ f .answer-is)))
-        (end-first cap k (respond request now) d (omega (arith, f .all)) (end-due t (End d) (f .place) (f .inside) (f .ranked) refl .read))
+        (end-first cap k (respond request now) d (omega (arith, f .all)) (end-read t (End d) (f .place) (f .inside) refl))
 
     one-step : Ordered t k (standing request now .marks)
         → (suc k ≤ devices t → Ordered t (suc k) (respond request now .table .marks) → Scans t cap (suc k) (scanFrom cap Continue (respond request now .table)))
@@ -255,11 +260,46 @@ module _ (t : Table) (v₀ : valid t ≡ true) (somebody : 0 < devices t) where
   behind : (heard old : List ℕ) (n : ℕ) → length heard ≡ n → drop n (starting heard old) ≡ drop n old
   behind heard old n e = drop-at heard (drop (length heard) old) n e ∙ ap (λ (k : ℕ). drop k old) e
 
+  -- each turn's FF are the windows that were dominant in its contest
+  abbrev Counted : List Turn → Type 0
+  Counted turns = (earlier later : List Turn) (turn : Turn) → turns ≡ earlier ++ turn ∷ later → fillOf (turn .answer) ≡ dominantIn turn
+
+  either-fill : (b : Bool) (d serial address : ℕ) → fillOf (pick b (Found d serial address) (End d)) ≡ d
+  either-fill true d serial address = refl
+  either-fill false d serial address = refl
+
+  scan-counted : (cap : ℕ) (now : Table) → now ≡ marked t (now .marks) → valid now ≡ true → Counted (scanFrom cap Start now)
+  scan-counted cap now columns-stay v earlier later turn same =
+      let at = reached t v₀ somebody earlier later turn 0 now (leftBy (scanFrom cap Start now) now) []
+      (subst (λ (turns : List Turn). Linked now turns (leftBy (scanFrom cap Start now) now)) same (scan-made cap Start now))
+      (record {
+        columns-stay = columns-stay;
+        right = v;
+        ordered = λ h. let z : ⊥ = omega arith in absurd z;
+        names = λ h. let z : ⊥ = omega arith in absurd z;
+      }) in
+      let one = contested (turn .request) (turn .met) (at .0 .right) (omega (arith, ap devices (at .0 .columns-stay))) in
+      let met = standing (turn .request) (turn .met) in
+      ap (λ (u : Turn). fillOf (u .answer)) (at .1) ∙ ap fillOf (one .answers)
+      ∙ either-fill (eqb (markAt met (one .place)) 0) (dominantIn turn) (serialAt met (one .place)) (addressAt met (one .place))
+
+  all-counted : (turns : List Turn) → Counted turns → fillHeard turns ≡ dominantOver turns
+  unfolding fillHeard dominantOver
+  all-counted [] each = refl
+  all-counted (turn ∷ turns) each =
+      ap₂ _+_ (each [] turns turn refl) (all-counted turns (λ earlier later x same. each (turn ∷ earlier) later x (ap (λ (l : List Turn). turn ∷ l) same)))
+
+  over-most : (turns : List Turn) → dominantOver turns ≤ 32 * length turns
+  unfolding dominantOver
+  over-most [] = omega arith
+  over-most (turn ∷ turns) = omega (arith, dominant-le windows (keys (standing (turn .request) (turn .met))), over-most turns)
+
   concluded-due : (cap : ℕ) (serials addresses : List ℕ) (now : Table) → devices t ≤ length serials → devices t ≤ length addresses → Scans t cap 0 (scanFrom cap Start now)
-      → ScanDue t cap serials addresses (concluded serials addresses now (scanFrom cap Start now))
-  concluded-due cap serials addresses now s-room a-room s =
+      → Counted (scanFrom cap Start now) → ScanDue t cap serials addresses (concluded serials addresses now (scanFrom cap Start now))
+  concluded-due cap serials addresses now s-room a-room s each =
       let turns = scanFrom cap Start now in
       let n = devices t in
+      let f = dominantOver turns in
       let heard : length (serialsHeard turns) ≡ min cap n = s .heard ∙ ap (min cap) (sub-zero n) in
       let beside : length (addressesHeard turns) ≡ min cap n = s .beside ∙ ap (min cap) (sub-zero n) in
       let sent : length turns ≡ min cap (n + 1) = s .sent ∙ ap (min cap) (sub-zero (n + 1)) in
@@ -267,7 +307,9 @@ module _ (t : Table) (v₀ : valid t ≡ true) (somebody : 0 < devices t) where
         requests = requests-are now n cap sent;
         sent = sent;
         counts = counts-are now n cap sent;
-        scanned = s .closes (length turns) ∙ ap (λ (x : ℕ). pick (ltb x cap) (Complete (length turns)) (Unfinished (length turns))) (sub-zero n) ∙ count-of cap n (length turns) sent;
+        scanned = ap (closing turns (length turns)) (all-counted turns each) ∙ s .closes (length turns) f
+            ∙ ap (λ (x : ℕ). pick (ltb x cap) (Complete (length turns) f) (Unfinished (length turns) f)) (sub-zero n) ∙ count-of cap n (length turns) f sent;
+        skipped-most = over-most turns;
         names = heard;
         entries = λ k h.
             let at = s .entry k (omega arith) in
@@ -277,19 +319,20 @@ module _ (t : Table) (v₀ : valid t ≡ true) (somebody : 0 < devices t) where
         serials-behind = behind (serialsHeard turns) serials (min cap n) heard;
         addresses-behind = behind (addressesHeard turns) addresses (min cap n) beside;
         read = λ earlier later turn same.
+            let d = dominantIn turn in
             s .read earlier later turn same
-            ∙ ap (λ (x : ℕ). Read (serialsHeard turns) (addressesHeard turns) (length earlier) x) (sub-zero n)
+            ∙ ap₂ (λ (x y : ℕ). Read x (serialsHeard turns) (addressesHeard turns) (length earlier) y) (each earlier later turn same) (sub-zero n)
             ∙ by-test (ltb (length earlier) n)
             (λ less.
             let l = ltb-true (length earlier) n less in
             let made : length earlier < length turns = omega (arith, ap length same, length-append earlier (turn ∷ later)) in
             let h : length earlier < min cap n = omega arith in
-            ap (λ (b : Bool). pick b (FoundRead (getD (serialsHeard turns) (length earlier) 0) (getD (addressesHeard turns) (length earlier) 0)) EndRead) less
-            ∙ ap₂ FoundRead (sym (first-of (serialsHeard turns) serials (min cap n) (length earlier) heard h)) (sym (first-of (addressesHeard turns) addresses (min cap n) (length earlier) beside h))
-            ∙ ap (λ (b : Bool). pick b (FoundRead (getD (starting (serialsHeard turns) serials) (length earlier) 0) (getD (starting (addressesHeard turns) addresses) (length earlier) 0)) EndRead) (sym less))
+            ap (λ (b : Bool). pick b (FoundRead d (getD (serialsHeard turns) (length earlier) 0) (getD (addressesHeard turns) (length earlier) 0)) (EndRead d)) less
+            ∙ ap₂ (FoundRead d) (sym (first-of (serialsHeard turns) serials (min cap n) (length earlier) heard h)) (sym (first-of (addressesHeard turns) addresses (min cap n) (length earlier) beside h))
+            ∙ ap (λ (b : Bool). pick b (FoundRead d (getD (starting (serialsHeard turns) serials) (length earlier) 0) (getD (starting (addressesHeard turns) addresses) (length earlier) 0)) (EndRead d)) (sym less))
             (λ over.
-            ap (λ (b : Bool). pick b (FoundRead (getD (serialsHeard turns) (length earlier) 0) (getD (addressesHeard turns) (length earlier) 0)) EndRead) over
-            ∙ ap (λ (b : Bool). pick b (FoundRead (getD (starting (serialsHeard turns) serials) (length earlier) 0) (getD (starting (addressesHeard turns) addresses) (length earlier) 0)) EndRead) (sym over));
+            ap (λ (b : Bool). pick b (FoundRead d (getD (serialsHeard turns) (length earlier) 0) (getD (addressesHeard turns) (length earlier) 0)) (EndRead d)) over
+            ∙ ap (λ (b : Bool). pick b (FoundRead d (getD (starting (serialsHeard turns) serials) (length earlier) 0) (getD (starting (addressesHeard turns) addresses) (length earlier) 0)) (EndRead d)) (sym over));
       }
 
   -- what is due depends on serials and addresses alone, so it is due on the table that the scan met
@@ -302,6 +345,7 @@ module _ (t : Table) (v₀ : valid t ≡ true) (somebody : 0 < devices t) where
         sent = due .sent;
         counts = due .counts;
         scanned = due .scanned;
+        skipped-most = due .skipped-most;
         names = due .names;
         entries = due .entries;
         serials-long = due .serials-long;
@@ -320,4 +364,5 @@ module _ (t : Table) (v₀ : valid t ≡ true) (somebody : 0 < devices t) where
       subst (ScanDue now cap serials addresses) (sym (scan-enough cap serials addresses now v (omega (arith, room))))
       (due-met cap serials addresses (concluded serials addresses now (scanFrom cap Start now)) now columns-stay
       (concluded-due cap serials addresses now (omega (arith, room)) (omega (arith, room))
-      (from-standing cap 0 Start now columns-stay v (omega arith) (ordered-cleared t (length (now .marks)) (omega arith)))))
+      (from-standing cap 0 Start now columns-stay v (omega arith) (ordered-cleared t (length (now .marks)) (omega arith)))
+      (scan-counted cap now columns-stay v)))

@@ -75,9 +75,9 @@ refusalIn Silent = none
 refusalIn (ResponseRefused why) = some why
 
 abbrev pub scanRefusalIn : Scanned → Option Refusal
-scanRefusalIn (Complete sent) = none
-scanRefusalIn (Nobody sent) = none
-scanRefusalIn (Unfinished sent) = none
+scanRefusalIn (Complete sent skipped) = none
+scanRefusalIn (Nobody sent skipped) = none
+scanRefusalIn (Unfinished sent skipped) = none
 scanRefusalIn (ScanRefused why) = some why
 
 abbrev pub refusalOf : Outcome → Option Refusal

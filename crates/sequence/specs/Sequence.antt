@@ -8,7 +8,7 @@ use mathlib.Core.Path.{_≡_}
 use mathlib.Core.Bool.{true}
 use mathlib.Core.List.{List, [], _∷_, _++_, map}
 use mathlib.Core.Option.{some, none}
-use Prim.Native.Nat.{ℕ, _+_, _≤_, _<_, min}
+use Prim.Native.Nat.{ℕ, _+_, _*_, _≤_, _<_, min}
 use lib.Dec.{ltb, eqb}
 use lib.ListN.{length, getD, take, drop, replicate}
 use Rattle.lists.specs.Choice.{pick}
@@ -54,8 +54,8 @@ pub record FoundDue (t : Table) (k : ℕ) (answer : Answer) : Type 0 where
   pub kth : rank t place + 1 ≡ k
   -- its bytes: an FF for each zero bit of its unscanned key, which are the windows that it made dominant, then its frame
   pub written : answerBytes answer ≡ replicate (zeroBits windows (key 0 (serialAt t place))) fill ++ foundFrame (serialAt t place) (addressAt t place)
-  -- read by the answer reader, it is that serial and that address
-  pub read : readAnswer (answerBytes answer) ≡ Found (serialAt t place) (addressAt t place)
+  -- read by the answer reader, it is that serial and that address, behind those FF
+  pub read : readAnswer (answerBytes answer) ≡ Found (zeroBits windows (key 0 (serialAt t place))) (serialAt t place) (addressAt t place)
 
 -- Rule D9: the end, which the device with the smallest serial speaks.
 pub record EndDue (t : Table) (answer : Answer) : Type 0 where
@@ -66,8 +66,8 @@ pub record EndDue (t : Table) (answer : Answer) : Type 0 where
   pub smallest : rank t place ≡ 0
   -- its bytes: an FF for each zero bit of its scanned key, then the frame of the end
   pub written : answerBytes answer ≡ replicate (zeroBits windows (key 1 (serialAt t place))) fill ++ endFrame
-  -- read by the answer reader, it is the end
-  pub read : readAnswer (answerBytes answer) ≡ End
+  -- read by the answer reader, it is the end, behind those FF
+  pub read : readAnswer (answerBytes answer) ≡ End (zeroBits windows (key 1 (serialAt t place)))
 
 -- Rule D9: what is due to request m, counted from the last start on, by the table that it met. The first n requests find a
 -- device each and all later ones the end; 0 stands for no start yet, to which nothing more is due.
@@ -85,8 +85,19 @@ pub record Contested (contending : Table) (answer : Answer) : Type 0 where
   pub answers : answer ≡ pick (eqb (markAt contending place) 0) (FoundAnswer (dominantWindows windows (keys contending)) (serialAt contending place) (addressAt contending place)) (EndAnswer (dominantWindows windows (keys contending)))
   pub written : answerBytes answer ≡ replicate (dominantWindows windows (keys contending)) fill
       ++ pick (eqb (markAt contending place) 0) (foundFrame (serialAt contending place) (addressAt contending place)) endFrame
+  -- and the answer reader counts as many, and finds that device, or the end (rule F5)
+  pub read : readAnswer (answerBytes answer)
+      ≡ pick (eqb (markAt contending place) 0) (Found (dominantWindows windows (keys contending)) (serialAt contending place) (addressAt contending place)) (End (dominantWindows windows (keys contending)))
 
 -- ---- what a whole scan gives that is not refused (rules D8, D9)
+
+-- how many windows were dominant in the contest of a turn, and in the contests of all of them together
+abbrev pub dominantIn : Turn → ℕ
+dominantIn turn = dominantWindows windows (keys (standing (turn .request) (turn .met)))
+
+unfoldable pub dominantOver : List Turn → ℕ
+dominantOver [] = 0
+dominantOver (turn ∷ turns) = dominantIn turn + dominantOver turns
 
 pub record ScanDue (t : Table) (cap : ℕ) (serials addresses : List ℕ) (given : Scanning) : Type 0 where
   -- it sends a start, then continues, min(cap, n + 1) requests in all
@@ -95,8 +106,11 @@ pub record ScanDue (t : Table) (cap : ℕ) (serials addresses : List ℕ) (given
   pub sent : length (given .turns) ≡ min cap (devices t + 1)
   -- and they are the count from then on, whatever it was before; with cap 0 there is none, and the count stays
   pub counts : 0 < cap → (m : ℕ) → sinceStart m (given .turns) ≡ min cap (devices t + 1)
-  -- it is Complete where the cap allows n + 1 requests, and else Unfinished; the number is the number sent
-  pub scanned : given .scanned ≡ pick (ltb (devices t) cap) (Complete (devices t + 1)) (Unfinished cap)
+  -- it is Complete where the cap allows n + 1 requests, and else Unfinished; the first number is the number sent, the second counts
+  -- the FF of all answers, the end's included: one for each window that was dominant in their contests
+  pub scanned : given .scanned ≡ pick (ltb (devices t) cap) (Complete (devices t + 1) (dominantOver (given .turns))) (Unfinished cap (dominantOver (given .turns)))
+  -- which are at most 32 for each request
+  pub skipped-most : dominantOver (given .turns) ≤ 32 * length (given .turns)
   -- it names min(cap, n) serials
   pub names : length (serialsHeard (given .turns)) ≡ min cap (devices t)
   -- entry k is the device of rank k: its serial in the one list, its address at the same place of the other
@@ -108,10 +122,11 @@ pub record ScanDue (t : Table) (cap : ℕ) (serials addresses : List ℕ) (given
   -- both lists keep what they held behind the entries
   pub serials-behind : drop (min cap (devices t)) (given .serials) ≡ drop (min cap (devices t)) serials
   pub addresses-behind : drop (min cap (devices t)) (given .addresses) ≡ drop (min cap (devices t)) addresses
-  -- reading the bytes of each answer gives exactly the entry, or the end, that the scan reports for that request
+  -- reading the bytes of each answer gives exactly the entry, or the end, that the scan reports for that request, and counts the
+  -- windows that were dominant in its contest, so that the scan's sum is the sum over what is read
   pub read : (earlier later : List Turn) (turn : Turn) → given .turns ≡ earlier ++ turn ∷ later
       → readAnswer (answerBytes (turn .answer))
-      ≡ pick (ltb (length earlier) (devices t)) (Found (getD (given .serials) (length earlier) 0) (getD (given .addresses) (length earlier) 0)) End
+      ≡ pick (ltb (length earlier) (devices t)) (Found (dominantIn turn) (getD (given .serials) (length earlier) 0) (getD (given .addresses) (length earlier) 0)) (End (dominantIn turn))
 
 -- ---- what a start, a continue or an offered frame gives that is not refused (rules D4 to D7, D9)
 

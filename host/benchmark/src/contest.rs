@@ -11,7 +11,7 @@ pub const CONTEST: &str = "contest";
 /// So many different lists of keys are gone over in turn.
 const LISTS: usize = 32;
 /// The four high bits of a device that is scanned.
-const SCANNED: u32 = 0xF000_0000;
+pub const SCANNED: u32 = 0xF000_0000;
 
 /// A list of keys.
 #[derive(Clone, Debug)]

@@ -143,6 +143,7 @@ fn compare(own: &mut [Bus], theirs: &mut [Bus]) -> Result<(), String> {
                 events: sys::MOOR_MOST_QUEUED as u8,
             },
             length: answer.length,
+            skipped: answer.skipped,
         };
         let sent = (answer.number, answer.answer) == (sys::MOOR_ACCEPTED, sys::MOOR_PACKET)
             && usize::from(answer.events) == sys::MOOR_MOST_QUEUED;

@@ -7,6 +7,7 @@ use second::devices::{self, ScanEnd, Scanned};
 use second::Refusal;
 
 use crate::case::{Case, OURS, SECOND};
+use crate::contest::SCANNED;
 use crate::random::Random;
 
 pub const SCAN: &str = "scan";
@@ -90,19 +91,29 @@ fn scan_second(bus: &mut Bus) -> Result<Scanned, Refusal> {
     )
 }
 
+/// The FF of a whole scan: the zero bits of every key, and of the smallest one
+/// again, whose device says the end with its mark set.
+fn fill(serials: &[u32]) -> usize {
+    let end = serials.iter().min().map(|serial| serial | SCANNED);
+    let keys = serials.iter().copied().chain(end);
+    keys.map(|key| key.count_zeros() as usize).sum()
+}
+
 /// Holds both to the whole scan that is due on the very tables to be measured,
 /// and to the same lists and marks.
 fn compare(size: usize, own: &mut [Bus], theirs: &mut [Bus]) -> Result<(), String> {
-    let due = Scanned {
-        end: ScanEnd::Complete,
-        requests: requests(size),
-        found: size,
-    };
     for (own, theirs) in own.iter_mut().zip(theirs) {
+        let due = Scanned {
+            end: ScanEnd::Complete,
+            requests: requests(size),
+            found: size,
+            skipped: fill(&own.serials),
+        };
         let answer = scan_ours(own);
         let theirs_answer = scan_second(theirs);
         let complete = (answer.number, answer.end) == (sys::MOOR_ACCEPTED, sys::MOOR_COMPLETE);
-        let counts = (answer.requests, answer.found) == (due.requests, due.found);
+        let counts = (answer.requests, answer.found, answer.skipped)
+            == (due.requests, due.found, due.skipped);
         if !complete || !counts || theirs_answer != Ok(due) || own != theirs {
             return Err(format!(
                 "scan of {:?}: {OURS} {answer:?}, {SECOND} {theirs_answer:?}",

@@ -30,12 +30,14 @@ pub enum ScanEnd {
     Unfinished = 3,
 }
 
-/// A whole scan: its end, the requests sent, and how many devices were heard.
+/// A whole scan: its end, the requests sent, how many devices were heard, and
+/// how many FF stood before all its answers together, the end's included.
 #[derive(Clone, Copy, Debug, PartialEq, Eq)]
 pub struct Scanned {
     pub end: ScanEnd,
     pub requests: usize,
     pub found: usize,
+    pub skipped: usize,
 }
 
 /// What a request brings about on the bus.
@@ -123,17 +125,22 @@ pub fn scan(
         end: ScanEnd::Unfinished,
         requests: 0,
         found: 0,
+        skipped: 0,
     };
     let mut request = Request::Start;
     while scanned.end == ScanEnd::Unfinished && scanned.requests < cap {
         scanned.requests += 1;
         match hear(request, serials, marks) {
-            Heard::Found { device, .. } => {
+            Heard::Found { device, dominant } => {
                 found_serials[scanned.found] = serials[device];
                 found_addresses[scanned.found] = addresses[device];
                 scanned.found += 1;
+                scanned.skipped += dominant;
             }
-            Heard::End { .. } => scanned.end = ScanEnd::Complete,
+            Heard::End { dominant } => {
+                scanned.end = ScanEnd::Complete;
+                scanned.skipped += dominant;
+            }
             Heard::Silence => scanned.end = ScanEnd::Nobody,
         }
         request = Request::Continue;

@@ -1,7 +1,7 @@
 //! Fast Modbus event frames: request 10, the packet of events 11 and the answer
 //! 12 that nobody has any, read and written.
 
-use crate::frames::{read_head, read_rest, write_frame, FILL, HEAD, SHORT};
+use crate::frames::{pass_over, read_head, read_rest, write_frame, HEAD, SHORT};
 use crate::refusal::{Refusal, FRAME_HEAD, FRAME_LENGTH, SUBCOMMAND_WRONG};
 
 const REQUEST: u8 = 0x10;
@@ -86,12 +86,11 @@ pub fn write_event_request(request: EventRequest, out: &mut [u8]) -> Result<usiz
     write_frame(frame, out)
 }
 
-/// What came back for an event request. "The event reader passes over leading
-/// FF; then FD begins only 0x12 and a sender's id, 1 to 247, only 0x11." Places
-/// count the FF.
-pub fn read_events(input: &[u8]) -> Result<Events, Refusal> {
-    let fill = input.iter().take_while(|&&byte| byte == FILL).count();
-    let frame = &input[fill..];
+/// What came back for an event request, behind how many FF. "The event reader
+/// passes over leading FF", up to 32 as the answer reader does; "then FD begins
+/// only 0x12 and a sender's id, 1 to 247, only 0x11". Places count the FF.
+pub fn read_events(input: &[u8]) -> Result<(usize, Events), Refusal> {
+    let (fill, frame) = pass_over(input)?;
     if frame.len() < SHORT {
         return Err(Refusal::whole(FRAME_LENGTH));
     }
@@ -108,9 +107,9 @@ pub fn read_events(input: &[u8]) -> Result<Events, Refusal> {
     }
     if due == NO_EVENTS {
         read_rest(frame, fill, SHORT)?;
-        return Ok(Events::None);
+        return Ok((fill, Events::None));
     }
-    read_packet(frame, fill)
+    Ok((fill, read_packet(frame, fill)?))
 }
 
 /// The event at a position of any bytes, where all of it is there.

@@ -4,7 +4,8 @@
 use crate::checks::modbus_check;
 use crate::devices::SERIAL_LIMIT;
 use crate::refusal::{
-    Refusal, FRAME_CHECK, FRAME_HEAD, FRAME_LENGTH, OUTPUT_SHORT, SERIAL_OVER, SUBCOMMAND_WRONG,
+    Refusal, FILL_OVER, FRAME_CHECK, FRAME_HEAD, FRAME_LENGTH, OUTPUT_SHORT, SERIAL_OVER,
+    SUBCOMMAND_WRONG,
 };
 
 /// All frames begin with these two bytes.
@@ -19,6 +20,8 @@ pub(crate) const SHORT: usize = 5;
 const LONG: usize = 10;
 /// The byte that a dominant window puts on the bus.
 pub const FILL: u8 = 0xFF;
+/// The most FF before an answer.
+pub const MOST_FILL: usize = 32;
 
 /// A scan request; the values are those of `moortinker.h`.
 #[derive(Clone, Copy, Debug, PartialEq, Eq)]
@@ -53,29 +56,29 @@ pub fn read_request(input: &[u8]) -> Result<Request, Refusal> {
     Ok(request)
 }
 
-/// What an answer frame says. "The answer reader passes over any number of
-/// leading FF, also none." Places count them.
-pub fn read_answer(input: &[u8]) -> Result<Answer, Refusal> {
-    let fill = input.iter().take_while(|&&byte| byte == FILL).count();
-    let frame = &input[fill..];
-    match read_head(frame, fill)? {
+/// How many leading FF the answer reader passed over, up to 32, and what the
+/// answer frame behind them says. Places count them.
+pub fn read_answer(input: &[u8]) -> Result<(usize, Answer), Refusal> {
+    let (fill, frame) = pass_over(input)?;
+    let answer = match read_head(frame, fill)? {
         FOUND => {
             read_rest(frame, fill, LONG)?;
             let serial = u32::from_be_bytes([frame[3], frame[4], frame[5], frame[6]]);
             if serial >= SERIAL_LIMIT {
                 return Err(Refusal::at(SERIAL_OVER, fill + 3));
             }
-            Ok(Answer::Found {
+            Answer::Found {
                 serial,
                 address: frame[7],
-            })
+            }
         }
         END => {
             read_rest(frame, fill, SHORT)?;
-            Ok(Answer::End)
+            Answer::End
         }
-        _ => Err(Refusal::at(SUBCOMMAND_WRONG, fill + 2)),
-    }
+        _ => return Err(Refusal::at(SUBCOMMAND_WRONG, fill + 2)),
+    };
+    Ok((fill, answer))
 }
 
 /// Writes a request frame, 1 for start and 2 for continue, and gives its
@@ -99,6 +102,18 @@ pub fn write_found(serial: u32, address: u8, out: &mut [u8]) -> Result<usize, Re
 /// Writes the answer that ends a scan and gives its length.
 pub fn write_end(out: &mut [u8]) -> Result<usize, Refusal> {
     write_frame([HEAD[0], HEAD[1], END, 0, 0], out)
+}
+
+/// How many FF an answer begins with, also none, and what stands behind them:
+/// "more than 32 is now number 19, placed at the 33rd. It comes after number 1
+/// and before all other checks of the input."
+pub(crate) fn pass_over(input: &[u8]) -> Result<(usize, &[u8]), Refusal> {
+    let most = input.iter().take(MOST_FILL + 1);
+    let fill = most.take_while(|&&byte| byte == FILL).count();
+    if fill > MOST_FILL {
+        return Err(Refusal::at(FILL_OVER, MOST_FILL));
+    }
+    Ok((fill, &input[fill..]))
 }
 
 /// The subcommand of a frame that stands at a place of the whole input. Order:

@@ -80,11 +80,13 @@ pub enum Heard {
     },
 }
 
-/// A poll: what was heard, and the length of the answer.
+/// A poll: what was heard, the length of the answer, and how many FF it begins
+/// with. Of silence both are 0.
 #[derive(Clone, Copy, Debug, PartialEq, Eq)]
 pub struct Polled {
     pub heard: Heard,
     pub length: usize,
+    pub skipped: usize,
 }
 
 /// Whether table and queues are valid.
@@ -182,6 +184,7 @@ fn respond(
         return Ok(Polled {
             heard: Heard::Silence,
             length: 0,
+            skipped: 0,
         });
     };
     // The smallest key remains, so a window is dominant where it has a 0.
@@ -193,6 +196,7 @@ fn respond(
         return Ok(Polled {
             heard: Heard::NoEvents { sender },
             length: dominant + write_no_events(frame)?,
+            skipped: dominant,
         });
     }
     let (events, length) = send(request, sender, queues, device, frame);
@@ -203,6 +207,7 @@ fn respond(
             events,
         },
         length: dominant + length,
+        skipped: dominant,
     })
 }
 

@@ -19,6 +19,7 @@ pub const SUBCOMMAND_WRONG: u8 = 15;
 pub const FRAME_CHECK: u8 = 16;
 pub const SERIAL_OVER: u8 = 17;
 pub const QUEUE_FULL: u8 = 18;
+pub const FILL_OVER: u8 = 19;
 pub const DIGIT_WRONG: u8 = 26;
 
 /// A refusal. Nothing lent was changed.

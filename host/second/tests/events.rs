@@ -54,15 +54,16 @@ fn packet(queued: u8, events: &[u8]) -> Vec<u8> {
 }
 
 /// What a packet of device 7 with no leading FF reads as.
-fn listing(queued: u8, listed: usize, size: u8) -> Result<Events, Refusal> {
-    Ok(Events::Packet {
+fn listing(queued: u8, listed: usize, size: u8) -> Result<(usize, Events), Refusal> {
+    let packet = Events::Packet {
         sender: 7,
         flag: 0,
         queued,
         listed,
         first: 6,
         size,
-    })
+    };
+    Ok((0, packet))
 }
 
 #[test]
@@ -81,7 +82,7 @@ fn printed_frames_of_document_000() {
         first: 6,
         size: 6,
     };
-    assert_eq!(read_events(&PACKET), Ok(read));
+    assert_eq!(read_events(&PACKET), Ok((0, read)));
     let event = Event {
         kind: 4,
         identifier: 0x01D0,
@@ -92,7 +93,7 @@ fn printed_frames_of_document_000() {
     assert_eq!(event_at(&PACKET, 6), Some(event));
     assert_eq!(PACKET[10..12], [0x04, 0x00]);
 
-    assert_eq!(read_events(&NO_EVENTS), Ok(Events::None));
+    assert_eq!(read_events(&NO_EVENTS), Ok((0, Events::None)));
     let mut out = [0x77; 6];
     assert_eq!(write_no_events(&mut out), Ok(5));
     assert_eq!(out[..5], NO_EVENTS);
@@ -151,7 +152,7 @@ fn frame_writers_need_the_exact_length() {
 
 #[test]
 fn event_reader_counts_leading_ff_in_its_places() {
-    for fill in [0, 1, 9, 40] {
+    for fill in [0, 1, 9, 31, 32] {
         let read = |frame: &[u8]| read_events(&with_fill(fill, frame));
         let heard = Events::Packet {
             sender: 5,
@@ -161,8 +162,8 @@ fn event_reader_counts_leading_ff_in_its_places() {
             first: fill + 6,
             size: 6,
         };
-        assert_eq!(read(&PACKET), Ok(heard));
-        assert_eq!(read(&NO_EVENTS), Ok(Events::None));
+        assert_eq!(read(&PACKET), Ok((fill, heard)));
+        assert_eq!(read(&NO_EVENTS), Ok((fill, Events::None)));
         assert_eq!(read(&[]), refusal(13, 0));
         assert_eq!(read(&NO_EVENTS[..4]), refusal(13, 0));
         assert_eq!(read(&[&NO_EVENTS[..], &[0]].concat()), refusal(13, 0));

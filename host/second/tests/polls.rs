@@ -252,6 +252,7 @@ fn empty_tables_and_full_ones() {
     let silence = Polled {
         heard: Heard::Silence,
         length: 0,
+        skipped: 0,
     };
     assert_eq!(nobody.poll(asking(0, 255, 0, 0)), Ok(silence));
     assert_eq!(nobody, before);
@@ -283,6 +284,7 @@ fn the_packet_that_document_000_prints() {
     let polled = Polled {
         heard: packet(5, 1, 1),
         length: 9 + 14,
+        skipped: 9,
     };
     assert_eq!(bus.poll(asking(0, 100, 0x0A, 1)), Ok(polled));
     let frame = [
@@ -304,6 +306,7 @@ fn printed_request_and_no_events() {
     let polled = Polled {
         heard: Heard::NoEvents { sender: 0x0A },
         length: 6 + 5,
+        skipped: 6,
     };
     assert_eq!(bus.offer(&request), Ok(polled));
     assert_eq!(bus.answer[..11], with_fill(6, &NO_EVENTS));
@@ -313,23 +316,91 @@ fn printed_request_and_no_events() {
 
 #[test]
 fn most_and_fewest_fill() {
-    let length = |id: u8, urgent: Option<bool>| {
+    let fill = |id: u8, urgent: Option<bool>| {
         let mut bus = Bus::of(&[id]);
         if let Some(urgent) = urgent {
             bus.add(id, urgent, 0, &[]).unwrap();
         }
-        let length = bus.poll(asking(0, 4, 0, 0)).unwrap().length;
+        let polled = bus.poll(asking(0, 4, 0, 0)).unwrap();
+        let length = polled.length;
         assert_eq!(bus.answer[length..], vec![OLD; POLL_ROOM - length]);
-        length - if urgent.is_some() { 12 } else { 5 }
+        // The frame is a packet of one event without data, or 0x12.
+        let frame = if urgent.is_some() { 12 } else { 5 };
+        assert_eq!(polled.skipped + frame, length);
+        polled.skipped
     };
-    assert_eq!(length(1, Some(true)), 11);
-    assert_eq!(length(1, Some(false)), 10);
-    assert_eq!(length(1, None), 7);
-    assert_eq!(length(247, Some(true)), 5);
-    assert_eq!(length(247, Some(false)), 4);
-    assert_eq!(length(247, None), 1);
-    assert_eq!(length(127, None), 1);
-    assert_eq!(length(128, None), 7);
+    assert_eq!(fill(1, Some(true)), 11);
+    assert_eq!(fill(1, Some(false)), 10);
+    assert_eq!(fill(1, None), 7);
+    assert_eq!(fill(247, Some(true)), 5);
+    assert_eq!(fill(247, Some(false)), 4);
+    assert_eq!(fill(247, None), 1);
+    assert_eq!(fill(127, None), 1);
+    assert_eq!(fill(128, None), 7);
+}
+
+#[test]
+fn polls_count_the_fill_of_their_answer() {
+    let mut bus = Bus::of(&[200, 5, 100]);
+    let polled = |heard, skipped, frame| {
+        Ok(Polled {
+            heard,
+            length: skipped + frame,
+            skipped,
+        })
+    };
+    let silence = || polled(Heard::Silence, 0, 0);
+    // Nothing is queued: 1111 0000 0101, 1111 0110 0100 and 1111 1100 1000.
+    let none = |sender| Heard::NoEvents { sender };
+    assert_eq!(bus.poll(asking(0, 9, 0, 0)), polled(none(5), 6, 5));
+    assert_eq!(bus.poll(asking(6, 9, 0, 0)), polled(none(100), 5, 5));
+    assert_eq!(bus.poll(asking(101, 9, 0, 0)), polled(none(200), 5, 5));
+    assert_eq!(bus.poll(asking(201, 9, 0, 0)), silence());
+    // Normal: 0001 1100 1000 with two events, of 4 and 5 bytes on the wire.
+    bus.add(200, false, 1, &[]).unwrap();
+    bus.add(200, false, 2, &[0xFF]).unwrap();
+    let answer = polled(packet(200, 0, 2), 8, 6 + 9 + 2);
+    assert_eq!(bus.poll(asking(0, 9, 0, 0)), answer);
+    // A shorter packet begins with as many.
+    let answer = polled(packet(200, 0, 1), 8, 6 + 4 + 2);
+    assert_eq!(bus.poll(asking(0, 8, 0, 0)), answer);
+    // Urgent: 0000 0110 0100, with an event of FF that are no fill.
+    bus.add(100, true, 0xFFFF, &[0xFF; 8]).unwrap();
+    let answer = polled(packet(100, 0, 1), 9, 6 + 12 + 2);
+    assert_eq!(bus.poll(asking(0, 12, 0, 0)), answer);
+    // It sits out: the others' keys alone count.
+    let answer = polled(packet(200, 0, 2), 8, 6 + 9 + 2);
+    assert_eq!(bus.poll(asking(0, 11, 0, 0)), answer);
+    assert_eq!(bus.poll(asking(0, 3, 0, 0)), polled(none(5), 6, 5));
+    // Silence, whether nobody may answer or all who may sit out.
+    assert_eq!(bus.poll(asking(100, 3, 0, 0)), silence());
+    assert_eq!(bus.poll(asking(255, 255, 0, 0)), silence());
+    // What is confirmed is gone before the contest: 1111 0110 0100 is left
+    // beside 0001 1100 1000.
+    let answer = polled(packet(200, 0, 2), 8, 6 + 9 + 2);
+    assert_eq!(bus.poll(asking(6, 12, 100, 0)), answer);
+    assert_eq!(bus.poll(asking(6, 12, 200, 0)), polled(none(100), 5, 5));
+}
+
+#[test]
+fn offered_polls_count_as_polls_do() {
+    // 0001 0000 0011 has nine zeros, 1111 0000 0011 six.
+    let mut bus = Bus::of(&[3]);
+    bus.add(3, false, 7, &[1]).unwrap();
+    let skipped = |bus: &mut Bus, request| {
+        let mut frame = [0; 9];
+        write_event_request(request, &mut frame).unwrap();
+        bus.offer(&frame).unwrap().skipped
+    };
+    assert_eq!(skipped(&mut bus, asking(0, 5, 0, 0)), 9);
+    assert_eq!(skipped(&mut bus, asking(4, 5, 0, 0)), 0);
+    assert_eq!(skipped(&mut bus, asking(0, 5, 3, 0)), 6);
+    // A request is read with nothing passed over.
+    let mut frame = [0; 9];
+    write_event_request(asking(0, 5, 0, 0), &mut frame).unwrap();
+    for fill in [1, 32, 33, 34] {
+        assert_eq!(bus.offer(&with_fill(fill, &frame)), refusal(14, 0));
+    }
 }
 
 #[test]
@@ -342,6 +413,7 @@ fn the_longest_answer() {
         let polled = Polled {
             heard: packet(1, 0, 8),
             length: 11 + 6 + 96 + 2,
+            skipped: 11,
         };
         assert_eq!(bus.poll(asking(0, most, 0, 0)), Ok(polled));
         assert_eq!(bus.answer[115], OLD);
@@ -444,6 +516,7 @@ fn devices_sit_out_what_does_not_fit() {
     let silence = Polled {
         heard: Heard::Silence,
         length: 0,
+        skipped: 0,
     };
     assert_eq!(bus.poll(asking(0, 3, 0, 0)), Ok(silence));
     assert_eq!(bus.answer, [OLD; POLL_ROOM]);
@@ -463,7 +536,9 @@ fn packets_take_the_oldest_that_fit() {
         let polled = bus.poll(asking(0, most, 0, 0)).unwrap();
         assert_eq!(polled.heard, packet(6, 0, events));
         assert_eq!(bus.lasts, [events]);
-        let read = read_events(&bus.answer[..polled.length]).unwrap();
+        // The key 0001 0000 0110 has nine zeros.
+        let (skipped, read) = read_events(&bus.answer[..polled.length]).unwrap();
+        assert_eq!((polled.skipped, skipped), (9, 9));
         let Events::Packet {
             queued,
             listed,
@@ -739,6 +814,15 @@ fn long_sequences_agree_with_lists() {
                 let polled = bus.poll(request).unwrap();
                 let answer = walk(&mut devices, request);
                 assert_eq!(bus.answer[..polled.length], answer);
+                let fill = answer.iter().take_while(|&&byte| byte == 0xFF).count();
+                assert_eq!(polled.skipped, fill);
+                match read_events(&answer) {
+                    Ok((skipped, _)) => assert_eq!(skipped, fill),
+                    refused => {
+                        assert_eq!(polled.heard, Heard::Silence);
+                        assert_eq!(refused, refusal(13, 0));
+                    }
+                }
                 assert!(bus.answer[answer.len()..].iter().all(|&byte| byte == OLD));
             }
             for (at, device) in devices.iter().enumerate() {

@@ -96,7 +96,7 @@ fn w10_end_of_scan() {
     let mut out = [0; 5];
     assert_eq!(write_end(&mut out), Ok(5));
     assert_eq!(out, frame);
-    assert_eq!(read_answer(&frame), Ok(Answer::End));
+    assert_eq!(read_answer(&frame), Ok((0, Answer::End)));
 }
 
 #[test]
@@ -109,7 +109,7 @@ fn w11_device_found() {
     let mut out = [0; 10];
     assert_eq!(write_found(0x0001_EB37, 0x0C, &mut out), Ok(10));
     assert_eq!(out, frame);
-    assert_eq!(read_answer(&frame), Ok(found));
+    assert_eq!(read_answer(&frame), Ok((0, found)));
 }
 
 /// Scans the three devices of W12 and W13: the answer, the serials listed with
@@ -136,6 +136,8 @@ fn w12_complete_scan() {
         end: ScanEnd::Complete,
         requests: 4,
         found: 3,
+        // The zeros of 5, 9 and 0001EB37, and of F0000005, which says the end.
+        skipped: 30 + 30 + 20 + 26,
     };
     assert_eq!(scanned, Ok(expected));
     assert_eq!(serials, [5, 9, 0x0001_EB37, 7]);
@@ -149,6 +151,7 @@ fn w13_unfinished_scan() {
         end: ScanEnd::Unfinished,
         requests: 3,
         found: 3,
+        skipped: 30 + 30 + 20,
     };
     assert_eq!(scanned, Ok(expected));
     assert_eq!(serials, [5, 9, 0x0001_EB37, 7]);
@@ -161,6 +164,7 @@ fn w14_nobody() {
         end: ScanEnd::Nobody,
         requests: 1,
         found: 0,
+        skipped: 0,
     };
     let scanned = scan(&[], &[], &mut [], &mut [], &mut [], 1);
     assert_eq!(scanned, Ok(expected));
@@ -173,14 +177,17 @@ fn printed_frames_of_document_000() {
     let end = [0xFD, 0x46, 0x04, 0xD3, 0x93];
     assert_eq!(
         read_answer(&[&fill[..], &found[..]].concat()),
-        Ok(Answer::Found {
-            serial: 0x0001_EB37,
-            address: 0x0C,
-        })
+        Ok((
+            9,
+            Answer::Found {
+                serial: 0x0001_EB37,
+                address: 0x0C,
+            }
+        ))
     );
     assert_eq!(
         read_answer(&[&fill[..], &end[..]].concat()),
-        Ok(Answer::End)
+        Ok((9, Answer::End))
     );
     let by_serial = [
         0xFD, 0x46, 0x08, 0x00, 0x01, 0xEB, 0x37, 0x03, 0x00, 0xC8, 0x00, 0x14,

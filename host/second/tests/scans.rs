@@ -44,9 +44,9 @@ fn request_reader_places() {
 
 #[test]
 fn answer_reader_counts_leading_ff_in_its_places() {
-    for fill in [0, 1, 9, 40] {
+    for fill in [0, 1, 9, 31, 32] {
         let read = |frame: &[u8]| read_answer(&with_fill(fill, frame));
-        assert_eq!(read(&END), Ok(Answer::End));
+        assert_eq!(read(&END), Ok((fill, Answer::End)));
         assert_eq!(read(&[]), refusal(13, 0));
         assert_eq!(read(&END[..4]), refusal(13, 0));
         assert_eq!(read(&FOUND[..9]), refusal(13, 0));
@@ -72,7 +72,7 @@ fn serials_from_2_to_the_28_are_refused() {
         serial: 0x0FFF_FFFF,
         address: 0xFF,
     };
-    assert_eq!(read_answer(&out), Ok(found));
+    assert_eq!(read_answer(&out), Ok((0, found)));
     out[3] = 0x10;
     assert_eq!(read_answer(&out), refusal(16, 8));
     let check = second::checks::modbus_check(&out[..8]).to_le_bytes();
@@ -224,6 +224,7 @@ fn cap_0_sends_nothing() {
         end: ScanEnd::Unfinished,
         requests: 0,
         found: 0,
+        skipped: 0,
     };
     let (mut marks, mut serials, mut addresses) = ([1, 0], [7, 7], [7, 7]);
     let scanned = scan(
@@ -286,10 +287,14 @@ fn scan_of_247_devices() {
             &mut addresses,
             cap,
         );
+        // Each answers with its serial's zeros; F0000000 then says the end.
+        let zeros: u32 = (0..heard).map(|at| (at as u32 * 3).count_zeros()).sum();
+        let end_zeros = if end == ScanEnd::Complete { 28 } else { 0 };
         let expected = Scanned {
             end,
             requests,
             found: heard,
+            skipped: zeros as usize + end_zeros,
         };
         assert_eq!(scanned, Ok(expected));
         for entry in 0..heard {

@@ -58,7 +58,8 @@ impl fmt::Display for ScanEnd {
 ///
 /// let mut empty = Columns { serials: &[], addresses: &[], marks: &mut [] };
 /// let scanned = empty.scan(&mut [], &mut [], 1)?;
-/// assert_eq!(scanned, Scanned { end: ScanEnd::Nobody, requests: 1, found: 0 });
+/// let nobody = Scanned { end: ScanEnd::Nobody, requests: 1, found: 0, skipped: 0 };
+/// assert_eq!(scanned, nobody);
 /// # Ok::<(), moortinker::Refusal>(())
 /// ```
 #[derive(Clone, Copy, Debug, PartialEq, Eq, Hash)]
@@ -70,6 +71,9 @@ pub struct Scanned {
     /// How many devices were heard, which is how many entries the two lists
     /// start with.
     pub found: usize,
+    /// How many FF stood before all answers together, that of the end included:
+    /// one for each window that was dominant.
+    pub skipped: usize,
 }
 
 /// A device table as three lent columns, valid or not.
@@ -195,7 +199,7 @@ impl Columns<'_> {
     /// is shorter than the serial column, then with
     /// [`TableNotValid`](crate::Reason::TableNotValid).
     ///
-    /// W13:
+    /// W13; the three keys have 30, 30 and 20 zero bits:
     ///
     /// ```
     /// use moortinker::devices::{Columns, ScanEnd, Scanned};
@@ -207,7 +211,8 @@ impl Columns<'_> {
     /// };
     /// let (mut serials, mut addresses) = ([0; 3], [0; 3]);
     /// let scanned = table.scan(&mut serials, &mut addresses, 3)?;
-    /// assert_eq!(scanned, Scanned { end: ScanEnd::Unfinished, requests: 3, found: 3 });
+    /// let three = Scanned { end: ScanEnd::Unfinished, requests: 3, found: 3, skipped: 80 };
+    /// assert_eq!(scanned, three);
     /// assert_eq!(serials, [5, 9, 0x0001EB37]);
     /// assert_eq!(addresses, [0x02, 0x03, 0x0C]);
     /// # Ok::<(), moortinker::Refusal>(())
@@ -231,6 +236,7 @@ impl Columns<'_> {
             end: ScanEnd::of_archive(scanned.end),
             requests: scanned.requests,
             found: scanned.found,
+            skipped: scanned.skipped,
         })
     }
 }

@@ -14,13 +14,15 @@ const VALID: &str = "a valid table with room for its answers is not refused";
 /// use moortinker::modbus::{read_answer, Answer};
 ///
 /// let mut table = Table::new([0x0001EB37, 5], [0x0C, 0x02], [0, 0])?;
-/// let first = table.start().expect("a table with devices answers");
-/// assert_eq!(read_answer(first.bytes())?, Answer::Found { serial: 5, address: 0x02 });
+/// let first = read_answer(table.start().expect("a device answers").bytes())?;
+/// assert_eq!(first.answer, Answer::Found { serial: 5, address: 0x02 });
 /// assert_eq!(table.marks(), [0, 1]);
-/// let second = table.resume().expect("a table with devices answers");
-/// assert_eq!(read_answer(second.bytes())?, Answer::Found { serial: 0x0001EB37, address: 0x0C });
-/// let third = table.resume().expect("a table with devices answers");
-/// assert_eq!(read_answer(third.bytes())?, Answer::End);
+/// let second = read_answer(table.resume().expect("a device answers").bytes())?;
+/// assert_eq!(second.answer, Answer::Found { serial: 0x0001EB37, address: 0x0C });
+/// let third = read_answer(table.resume().expect("a device answers").bytes())?;
+/// assert_eq!(third.answer, Answer::End);
+/// // One FF for each zero bit of the keys 00000005, 0001EB37 and F0000005.
+/// assert_eq!((first.skipped, second.skipped, third.skipped), (30, 20, 26));
 /// # Ok::<(), moortinker::Refusal>(())
 /// ```
 #[derive(Clone, Debug, Default, PartialEq, Eq, Hash)]
@@ -209,6 +211,7 @@ impl Table {
         Scan {
             end: scanned.end,
             requests: scanned.requests,
+            skipped: scanned.skipped,
             serials,
             addresses,
         }
@@ -251,6 +254,8 @@ impl AsRef<[u8]> for Reply {
 /// let scan = Table::new([9, 5], [0x03, 0x02], [0, 0])?.scan(100);
 /// assert_eq!(scan.end(), ScanEnd::Complete);
 /// assert_eq!(scan.requests(), 3);
+/// // 30 zero bits in either key, and 26 in F0000005, whose device says the end.
+/// assert_eq!(scan.skipped(), 86);
 /// assert_eq!(scan.heard().len(), 2);
 /// for Device { serial, address } in &scan {
 ///     println!("{serial:08X} at {address:02X}");
@@ -261,6 +266,7 @@ impl AsRef<[u8]> for Reply {
 pub struct Scan {
     end: ScanEnd,
     requests: usize,
+    skipped: usize,
     serials: Vec<u32>,
     addresses: Vec<u8>,
 }
@@ -274,6 +280,11 @@ impl Scan {
     /// The requests sent.
     pub fn requests(&self) -> usize {
         self.requests
+    }
+
+    /// How many FF stood before all answers together, that of the end included.
+    pub fn skipped(&self) -> usize {
+        self.skipped
     }
 
     /// The devices heard, in the order heard.

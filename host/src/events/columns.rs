@@ -54,7 +54,7 @@ pub enum Sent {
 /// let request = Request { minimum: 0, most: 100, confirmed: 0, flag: 0 };
 /// let mut answer = [0; POLL_ROOM];
 /// // The key F0A has six zero bits.
-/// let polled = Polled { sent: Sent::NoEvents { sender: 0x0A }, length: 11 };
+/// let polled = Polled { sent: Sent::NoEvents { sender: 0x0A }, length: 11, skipped: 6 };
 /// assert_eq!(columns.poll(request, &mut answer), Ok(Some(polled)));
 /// assert_eq!(answer[..6], [0xFF; 6]);
 /// assert_eq!(answer[6..11], [0xFD, 0x46, 0x12, 0x52, 0x5D]);
@@ -66,6 +66,8 @@ pub struct Polled {
     /// How many bytes the answer buffer starts with: one FF for each dominant
     /// window, then the frame.
     pub length: usize,
+    /// How many of them are these FF.
+    pub skipped: usize,
 }
 
 impl Polled {
@@ -83,8 +85,11 @@ impl Polled {
             sys::MOOR_NO_EVENTS => Sent::NoEvents { sender },
             _ => unreachable!("libmoortinker.a answers a poll in one of three ways"),
         };
-        let length = polled.length;
-        Ok(Some(Polled { sent, length }))
+        Ok(Some(Polled {
+            sent,
+            length: polled.length,
+            skipped: polled.skipped,
+        }))
     }
 }
 
@@ -225,7 +230,8 @@ impl Columns<'_> {
     /// assert_eq!(answer[..9], [0xFF; 9]);
     /// assert_eq!(answer[9..15], [0x05, 0x46, 0x11, 0x01, 0x01, 0x06]);
     /// assert_eq!(answer[15..23], [0x02, 0x04, 0x01, 0xD0, 0x04, 0x00, 0x2B, 0xAC]);
-    /// assert_eq!((polled.length, &*columns.lasts), (23, &[1][..]));
+    /// assert_eq!((polled.length, polled.skipped), (23, 9));
+    /// assert_eq!(columns.lasts, [1]);
     ///
     /// let confirming = Request { confirmed: 0x05, ..request };
     /// let polled = columns.poll(confirming, &mut answer)?.expect("device 5 answers");

@@ -97,7 +97,8 @@ pub fn write_request(request: Request, out: &mut [u8]) -> Result<usize, Refusal>
 /// ```
 /// use moortinker::events::{read_answer, Answer};
 ///
-/// assert_eq!(read_answer(&[0xFD, 0x46, 0x12, 0x52, 0x5D]), Ok(Answer::NoEvents));
+/// assert_eq!(read_answer(&[0xFD, 0x46, 0x12, 0x52, 0x5D])?.answer, Answer::NoEvents);
+/// # Ok::<(), moortinker::Refusal>(())
 /// ```
 #[derive(Clone, Copy, Debug, PartialEq, Eq, Hash)]
 pub enum Answer<'a> {
@@ -107,12 +108,31 @@ pub enum Answer<'a> {
     NoEvents,
 }
 
-/// What came back for an event request. Any number of leading FF is passed
-/// over, and the frame must fill the rest.
+/// What came back for an event request, as it was read. [`read_answer`] gives it.
 ///
-/// Refuses with [`FrameLength`](crate::Reason::FrameLength) where fewer than 5
-/// bytes are left, [`FrameHead`](crate::Reason::FrameHead) where the first is
-/// neither FD nor an id, 1 to 247, or the second not 46,
+/// ```
+/// use moortinker::events::{read_answer, Answer, Heard};
+///
+/// let heard = read_answer(&[0xFF, 0xFD, 0x46, 0x12, 0x52, 0x5D]);
+/// assert_eq!(heard, Ok(Heard { answer: Answer::NoEvents, skipped: 1 }));
+/// ```
+#[derive(Clone, Copy, Debug, PartialEq, Eq, Hash)]
+pub struct Heard<'a> {
+    /// What came back.
+    pub answer: Answer<'a>,
+    /// How many FF were passed over before it, at most
+    /// [`MOST_FILL`](crate::modbus::MOST_FILL).
+    pub skipped: usize,
+}
+
+/// What came back for an event request. Up to
+/// [`MOST_FILL`](crate::modbus::MOST_FILL) leading FF are passed over and counted,
+/// and the frame must fill the rest.
+///
+/// Refuses with [`FillOver`](crate::Reason::FillOver) where there is one FF more,
+/// [`FrameLength`](crate::Reason::FrameLength) where fewer than 5 bytes are left,
+/// [`FrameHead`](crate::Reason::FrameHead) where the first is neither FD nor an
+/// id, 1 to 247, or the second not 46,
 /// [`SubcommandWrong`](crate::Reason::SubcommandWrong) where the third is not
 /// 12 behind FD or 11 behind an id,
 /// [`FrameLength`](crate::Reason::FrameLength) where the lengths and counts
@@ -129,7 +149,9 @@ pub enum Answer<'a> {
 /// let mut input = [
 ///     0xFF, 0x05, 0x46, 0x11, 0x01, 0x01, 0x06, 0x02, 0x04, 0x01, 0xD0, 0x04, 0x00, 0x2B, 0xAC,
 /// ];
-/// let Answer::Packet(packet) = read_answer(&input)? else {
+/// let heard = read_answer(&input)?;
+/// assert_eq!(heard.skipped, 1);
+/// let Answer::Packet(packet) = heard.answer else {
 ///     unreachable!("it is a packet");
 /// };
 /// let mut events = packet.events();
@@ -139,22 +161,26 @@ pub enum Answer<'a> {
 /// input[14] = 0xAD;
 /// let refusal = read_answer(&input).unwrap_err();
 /// assert_eq!((refusal.reason(), refusal.place()), (Reason::FrameCheck, 13));
+/// let refusal = read_answer(&[0xFF; 33]).unwrap_err();
+/// assert_eq!((refusal.reason(), refusal.place()), (Reason::FillOver, 32));
 /// # Ok::<(), moortinker::Refusal>(())
 /// ```
-pub fn read_answer(input: &[u8]) -> Result<Answer<'_>, Refusal> {
+pub fn read_answer(input: &[u8]) -> Result<Heard<'_>, Refusal> {
     let read = call::read_events(input);
     Refusal::check(read.number, read.place)?;
-    match read.answer {
-        sys::MOOR_PACKET => Ok(Answer::Packet(Packet {
+    let answer = match read.answer {
+        sys::MOOR_PACKET => Answer::Packet(Packet {
             sender: read.sender,
             flag: read.flag,
             queued: read.queued,
             listed: read.listed,
             bytes: &input[read.first..][..usize::from(read.size)],
-        })),
-        sys::MOOR_NO_EVENTS => Ok(Answer::NoEvents),
+        }),
+        sys::MOOR_NO_EVENTS => Answer::NoEvents,
         _ => unreachable!("libmoortinker.a reads one of two answers"),
-    }
+    };
+    let skipped = read.skipped;
+    Ok(Heard { answer, skipped })
 }
 
 /// Writes the answer that nobody has events, with no FF before it, and gives
@@ -179,7 +205,7 @@ pub fn write_no_events(out: &mut [u8]) -> Result<usize, Refusal> {
 ///
 /// // Device 5 has two events queued, and sends the older one.
 /// let input = [0x05, 0x46, 0x11, 0x00, 0x02, 0x04, 0x00, 0x0F, 0x00, 0x00, 0x7A, 0x95];
-/// let Answer::Packet(packet) = read_answer(&input)? else {
+/// let Answer::Packet(packet) = read_answer(&input)?.answer else {
 ///     unreachable!("it is a packet");
 /// };
 /// assert_eq!((packet.sender(), packet.flag()), (0x05, 0));
@@ -305,7 +331,7 @@ pub fn event_at(input: &[u8], at: usize) -> Option<(Event<'_>, usize)> {
 ///     0x05, 0x46, 0x11, 0x00, 0x02, 0x09, 0x00, 0x0F, 0x00, 0x00, 0x01, 0x02, 0x00, 0x04, 0x01,
 ///     0x9A, 0x84,
 /// ];
-/// let Answer::Packet(packet) = read_answer(&input)? else {
+/// let Answer::Packet(packet) = read_answer(&input)?.answer else {
 ///     unreachable!("it is a packet");
 /// };
 /// let mut events = packet.events();

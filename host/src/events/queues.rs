@@ -215,6 +215,7 @@ impl Queues {
 /// let request = Request { minimum: 0, most: 100, confirmed: 0, flag: 0 };
 /// let reply = Queues::fresh(&table)?.poll(&table, request)?.expect("device 10 answers");
 /// assert_eq!(reply.sent(), Sent::NoEvents { sender: 0x0A });
+/// assert_eq!(reply.skipped(), 6);
 /// assert_eq!(reply.bytes()[..6], [0xFF; 6]);
 /// assert_eq!(reply.bytes()[6..], [0xFD, 0x46, 0x12, 0x52, 0x5D]);
 /// # Ok::<(), moortinker::Refusal>(())
@@ -239,6 +240,11 @@ impl Reply {
     /// What was sent, and by whom.
     pub fn sent(&self) -> Sent {
         self.polled.sent
+    }
+
+    /// How many FF the bytes begin with.
+    pub fn skipped(&self) -> usize {
+        self.polled.skipped
     }
 
     /// The bytes on the bus.

@@ -6,6 +6,7 @@ use second::devices;
 use second::refusal::Refusal;
 
 use crate::calls::{written, Writing};
+use crate::fill::counted_answer;
 use crate::lent::{hex, Lent};
 use crate::session::{same, Function, Session};
 use crate::tables::Table;
@@ -145,8 +146,9 @@ pub fn contest(session: &mut Session, keys: &[u32]) {
     session.settle(Function::Contest, 0, compared, || hex(keys));
 }
 
-/// Asks the devices on both sides. Gives whether they took the request.
-pub fn ask(session: &mut Session, board: &mut Board, asked: Asked, room: usize) -> bool {
+/// Asks the devices on both sides, and reads what they answer. Gives how many FF
+/// stand before it, of silence 0, or none when refused.
+pub fn ask(session: &mut Session, board: &mut Board, asked: Asked, room: usize) -> Option<usize> {
     let before = board.second_marks.part().to_vec();
     let frame = session.lend(asked.frame());
     let kept = frame.clone();
@@ -162,11 +164,12 @@ pub fn ask(session: &mut Session, board: &mut Board, asked: Asked, room: usize) 
         let frame = hex(asked.frame());
         format!("{frame} {} room {room}", board.text(&before))
     });
-    if second.number == 0 {
-        let answer = &writing.archive.part()[..second.length];
-        session.note(function, [subcommand(answer), 0, 0]);
+    if second.number != 0 {
+        return None;
     }
-    second.number == 0
+    let answer = &writing.archive.part()[..second.length];
+    session.note(function, [subcommand(answer), 0, 0]);
+    Some(counted_answer(session, answer))
 }
 
 /// The subcommand of an answer behind its FF, 0 for silence.
@@ -231,14 +234,14 @@ fn ask_second(board: &mut Board, asked: &Asked, answer: &mut [u8]) -> Result<usi
     }
 }
 
-/// Scans on both sides with lists of these lengths. Gives the requests sent, or
-/// none when refused.
+/// Scans on both sides with lists of these lengths. Gives what both say, or none
+/// when refused.
 pub fn scan(
     session: &mut Session,
     board: &mut Board,
     rooms: [usize; 2],
     cap: usize,
-) -> Option<usize> {
+) -> Option<sys::Scanned> {
     let before = board.second_marks.part().to_vec();
     let mut archive_lists = (session.room::<u32>(rooms[0]), session.room::<u8>(rooms[1]));
     let mut second_lists = archive_lists.clone();
@@ -253,8 +256,9 @@ pub fn scan(
     if second.number != 0 {
         return None;
     }
-    session.note(Function::Scan, [second.end, 0, 0]);
-    Some(second.requests)
+    let form = [second.end, u8::from(second.skipped > 0), 0];
+    session.note(Function::Scan, form);
+    Some(second)
 }
 
 fn scan_archive(board: &mut Board, lists: &mut (Lent<u32>, Lent<u8>), cap: usize) -> sys::Scanned {
@@ -293,6 +297,7 @@ fn scan_second(board: &mut Board, lists: &mut (Lent<u32>, Lent<u8>), cap: usize)
             place: 0,
             requests: scanned.requests,
             found: scanned.found,
+            skipped: scanned.skipped,
         },
         Err(Refusal { number, place }) => sys::Scanned {
             number,
@@ -300,6 +305,7 @@ fn scan_second(board: &mut Board, lists: &mut (Lent<u32>, Lent<u8>), cap: usize)
             place,
             requests: 0,
             found: 0,
+            skipped: 0,
         },
     }
 }

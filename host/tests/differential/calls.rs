@@ -11,6 +11,7 @@ use second::events::{EventRequest, Events};
 use second::refusal::Refusal;
 use second::{checks, ebus, events, exchange, frames};
 
+use crate::fill::extent;
 use crate::lent::{hex, Lent};
 use crate::session::{same, Function, Session};
 
@@ -164,22 +165,28 @@ pub fn read_request(session: &mut Session, input: &[u8]) {
     }
 }
 
-pub fn read_answer(session: &mut Session, input: &[u8]) {
-    let mut second = sys::AnswerRead {
-        number: 0,
-        answer: 0,
-        address: 0,
-        serial: 0,
-        place: 0,
-    };
+/// An answer frame of which nothing is known.
+pub const NO_ANSWER_READ: sys::AnswerRead = sys::AnswerRead {
+    number: 0,
+    answer: 0,
+    address: 0,
+    serial: 0,
+    place: 0,
+    skipped: 0,
+};
+
+/// Gives what both sides say.
+pub fn read_answer(session: &mut Session, input: &[u8]) -> sys::AnswerRead {
+    let mut second = NO_ANSWER_READ;
     match frames::read_answer(input) {
-        Ok(frames::Answer::Found { serial, address }) => {
+        Ok((skipped, frames::Answer::Found { serial, address })) => {
             (second.answer, second.serial, second.address) = (3, serial, address);
+            second.skipped = skipped;
         }
-        Ok(frames::Answer::End) => second.answer = 4,
+        Ok((skipped, frames::Answer::End)) => (second.answer, second.skipped) = (4, skipped),
         Err(Refusal { number, place }) => (second.number, second.place) = (number, place),
     }
-    let sys::AnswerRead { number, answer, .. } = second;
+    let number = second.number;
     // SAFETY: the pointer comes with its length.
     let archive = |at, length| unsafe { sys::moor_read_answer(at, length) };
     read(
@@ -192,8 +199,10 @@ pub fn read_answer(session: &mut Session, input: &[u8]) {
         String::new,
     );
     if number == 0 {
-        session.note(Function::ReadAnswer, [answer, 0, 0]);
+        let form = [second.answer, extent(second.skipped), 0];
+        session.note(Function::ReadAnswer, form);
     }
+    second
 }
 
 pub fn read_event_request(session: &mut Session, input: &[u8]) {
@@ -226,40 +235,31 @@ pub fn read_event_request(session: &mut Session, input: &[u8]) {
     );
 }
 
-pub fn read_events(session: &mut Session, input: &[u8]) {
-    let mut second = sys::EventsRead {
-        number: 0,
-        answer: 0,
-        sender: 0,
-        flag: 0,
-        queued: 0,
-        size: 0,
-        place: 0,
-        listed: 0,
-        first: 0,
-    };
+/// What came back of which nothing is known.
+pub const NO_EVENTS_READ: sys::EventsRead = sys::EventsRead {
+    number: 0,
+    answer: 0,
+    sender: 0,
+    flag: 0,
+    queued: 0,
+    size: 0,
+    place: 0,
+    listed: 0,
+    first: 0,
+    skipped: 0,
+};
+
+/// Gives what both sides say.
+pub fn read_events(session: &mut Session, input: &[u8]) -> sys::EventsRead {
+    let mut second = NO_EVENTS_READ;
     match events::read_events(input) {
-        Ok(Events::Packet {
-            sender,
-            flag,
-            queued,
-            listed,
-            first,
-            size,
-        }) => {
-            (second.answer, second.sender, second.flag) = (17, sender, flag);
-            (second.queued, second.size) = (queued, size);
-            (second.listed, second.first) = (listed, first);
+        Ok((skipped, events)) => {
+            second.skipped = skipped;
+            lay_out(events, &mut second);
         }
-        Ok(Events::None) => second.answer = 18,
         Err(Refusal { number, place }) => (second.number, second.place) = (number, place),
     }
-    let sys::EventsRead {
-        number,
-        answer,
-        listed,
-        ..
-    } = second;
+    let number = second.number;
     // SAFETY: the pointer comes with its length.
     let archive = |at, length| unsafe { sys::moor_read_events(at, length) };
     read(
@@ -272,7 +272,29 @@ pub fn read_events(session: &mut Session, input: &[u8]) {
         String::new,
     );
     if number == 0 {
-        session.note(Function::ReadEvents, [answer, listed.min(2) as u8, 0]);
+        let listed = second.listed.min(2) as u8;
+        let form = [second.answer, listed, extent(second.skipped)];
+        session.note(Function::ReadEvents, form);
+    }
+    second
+}
+
+/// What came back, as the archive lays it out.
+fn lay_out(events: Events, read: &mut sys::EventsRead) {
+    match events {
+        Events::Packet {
+            sender,
+            flag,
+            queued,
+            listed,
+            first,
+            size,
+        } => {
+            (read.answer, read.sender, read.flag) = (17, sender, flag);
+            (read.queued, read.size) = (queued, size);
+            (read.listed, read.first) = (listed, first);
+        }
+        Events::None => read.answer = 18,
     }
 }
 

@@ -5,6 +5,7 @@
 use crate::board::{ask, contest, scan, table_valid, Asked, Board};
 use crate::calls;
 use crate::eventedges;
+use crate::fill::{self, scan_and_repeat};
 use crate::hands::hear_with;
 use crate::hearing::{Hearing, MOST_USED};
 use crate::inputs::{expanded, ROOMS};
@@ -18,10 +19,10 @@ pub const EXCHANGE: [u8; 13] = [
 ];
 const COMMAND: &[u8] = EXCHANGE.split_at(7).0;
 const REPLY: &[u8] = &[0x01, 0x2A, 0xB1];
-const START: [u8; 5] = [0xFD, 0x46, 0x01, 0x13, 0x90];
-const CONTINUE: [u8; 5] = [0xFD, 0x46, 0x02, 0x53, 0x91];
-const END: [u8; 5] = [0xFD, 0x46, 0x04, 0xD3, 0x93];
-const FOUND: [u8; 10] = [0xFD, 0x46, 0x03, 0x00, 0x01, 0xEB, 0x37, 0x0C, 0xCE, 0xDC];
+pub const START: [u8; 5] = [0xFD, 0x46, 0x01, 0x13, 0x90];
+pub const CONTINUE: [u8; 5] = [0xFD, 0x46, 0x02, 0x53, 0x91];
+pub const END: [u8; 5] = [0xFD, 0x46, 0x04, 0xD3, 0x93];
+pub const FOUND: [u8; 10] = [0xFD, 0x46, 0x03, 0x00, 0x01, 0xEB, 0x37, 0x0C, 0xCE, 0xDC];
 
 /// Runs all of them.
 pub fn run_all(session: &mut Session) {
@@ -39,6 +40,7 @@ pub fn run_all(session: &mut Session) {
     tables(session);
     scans(session);
     eventedges::run_all(session);
+    fill::run_all(session);
     railbusedges::run_all(session);
 }
 
@@ -395,8 +397,8 @@ fn scans(session: &mut Session) {
         for cap in [0, 1, 2, 3, 4, devices, devices + 1, usize::MAX] {
             let mut board = Board::new(session, table.clone());
             let short = devices.saturating_sub(1);
-            scan(session, &mut board, [devices, devices], cap);
-            scan(session, &mut board, [devices + 3, devices + 1], cap);
+            scan_and_repeat(session, &mut board, [devices, devices], cap);
+            scan_and_repeat(session, &mut board, [devices + 3, devices + 1], cap);
             scan(session, &mut board, [short, devices], cap);
             scan(session, &mut board, [devices, short], cap);
         }

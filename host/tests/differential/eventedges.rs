@@ -14,10 +14,10 @@ use crate::session::Session;
 use crate::tables::Table;
 
 const REQUEST: [u8; 9] = [0xFD, 0x46, 0x10, 0x00, 0x64, 0x0A, 0x01, 0x7E, 0x15];
-const PACKET: [u8; 14] = [
+pub const PACKET: [u8; 14] = [
     0x05, 0x46, 0x11, 0x01, 0x01, 0x06, 0x02, 0x04, 0x01, 0xD0, 0x04, 0x00, 0x2B, 0xAC,
 ];
-const NO_EVENTS: [u8; 5] = [0xFD, 0x46, 0x12, 0x52, 0x5D];
+pub const NO_EVENTS: [u8; 5] = [0xFD, 0x46, 0x12, 0x52, 0x5D];
 /// The room that a poll asks for.
 const ROOM: usize = 116;
 
@@ -36,7 +36,7 @@ pub fn run_all(session: &mut Session) {
 }
 
 /// The bytes with their check behind them.
-fn checked(bytes: &[u8]) -> Vec<u8> {
+pub fn checked(bytes: &[u8]) -> Vec<u8> {
     [bytes, &modbus_check(bytes).to_le_bytes()].concat()
 }
 
@@ -53,12 +53,6 @@ fn frames(session: &mut Session) {
             calls::read_event_request(session, &checked(input));
             calls::read_events(session, &checked(input));
         });
-    }
-    for fill in [0, 1, 32, 33, 1000] {
-        let fill = vec![0xFF; fill];
-        calls::read_events(session, &fill);
-        calls::read_events(session, &[&fill[..], &NO_EVENTS].concat());
-        calls::read_events(session, &[&fill[..], &PACKET].concat());
     }
 }
 

@@ -83,6 +83,20 @@ pub fn answer(random: &mut Random) -> Vec<u8> {
     input
 }
 
+/// What stands behind the FF of what comes back: a right frame, or one with
+/// something wrong in it.
+pub fn sent_back(random: &mut Random) -> Vec<u8> {
+    let mut frame = match random.below(8) {
+        0 | 1 => no_events(random),
+        2..=6 => packet(random),
+        _ => inputs::frame(random),
+    };
+    if random.one_in(4) {
+        inputs::damage(random, &mut frame);
+    }
+    frame
+}
+
 fn no_events(random: &mut Random) -> Vec<u8> {
     let mut frame = vec![0; 5];
     write_no_events(&mut frame).expect("room for the frame");

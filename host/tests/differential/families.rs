@@ -4,6 +4,7 @@
 use crate::board::{ask, contest, scan, table_valid, Asked, Board};
 use crate::calls;
 use crate::cuts::listening;
+use crate::fill;
 use crate::hands::in_hand;
 use crate::idle;
 use crate::inputs;
@@ -31,11 +32,13 @@ const FAMILIES: &[Family] = &[
     ("bytes in hand", 18, in_hand),
     ("states of any bytes", 30, states),
     ("frames", 93, frames),
-    ("tables", 16, devices),
-    ("sequences", 22, sequences),
+    ("FF before answers", 65, fill::answers),
+    ("tables", 18, devices),
+    ("sequences", 70, sequences),
     ("event frames", 45, polling::frames),
-    ("event queues", 15, polling::single),
-    ("polls", 55, polling::sequences),
+    ("FF before what comes back", 60, fill::events),
+    ("event queues", 18, polling::single),
+    ("polls", 77, polling::sequences),
     ("Railbus packets", 100, railbus::packets),
     ("relay devices", 25, relaying::single),
     ("relay sequences", 75, relaying::sequences),
@@ -265,12 +268,9 @@ pub fn call(session: &mut Session, board: &mut Board) -> Call {
     }
 }
 
-fn called(accepted: bool, call: Call) -> Call {
-    if accepted {
-        call
-    } else {
-        Call::Nothing
-    }
+/// A request that is refused is none.
+fn called(answered: Option<usize>, call: Call) -> Call {
+    answered.map_or(Call::Nothing, |_| call)
 }
 
 /// Offers a right start or continue, or any frame.
@@ -281,15 +281,16 @@ fn offer(session: &mut Session, board: &mut Board, room: usize) -> Call {
         1..=3 => vec![0xFD, 0x46, 0x02, 0x53, 0x91],
         _ => inputs::frame(random),
     };
-    let accepted = ask(session, board, Asked::Offer(&frame), room);
+    let answered = ask(session, board, Asked::Offer(&frame), room);
     let call = if frame.get(2) == Some(&1) {
         Call::Start
     } else {
         Call::Continue
     };
-    called(accepted, call)
+    called(answered, call)
 }
 
+/// A whole scan; of some the same requests are then made one by one.
 fn whole_scan(session: &mut Session, board: &mut Board, devices: usize) -> Call {
     let random = &mut session.random;
     let rooms = [(); 2].map(|()| match random.below(12) {
@@ -306,7 +307,12 @@ fn whole_scan(session: &mut Session, board: &mut Board, devices: usize) -> Call 
         6 => usize::MAX,
         _ => random.below(devices + 20),
     };
-    match scan(session, board, rooms, cap) {
+    let sent = if random.one_in(2) {
+        fill::scan_and_repeat(session, board, rooms, cap)
+    } else {
+        scan(session, board, rooms, cap).map(|scanned| scanned.requests)
+    };
+    match sent {
         None | Some(0) => Call::Nothing,
         Some(sent) => Call::Scan(sent),
     }

@@ -320,14 +320,20 @@ pub fn answer(random: &mut Random) -> Vec<u8> {
 
 /// FF and then the frame.
 pub fn filled(random: &mut Random, frame: fn(&mut Random) -> Vec<u8>) -> Vec<u8> {
-    let fill = match random.below(300) {
-        0 => 1000 + random.below(4000),
-        1..=99 => random.below(3),
-        _ => random.below(45),
-    };
-    let mut input = vec![0xFF; fill];
+    let mut input = vec![0xFF; fill(random)];
     input.extend(frame(random));
     input
+}
+
+/// How many FF stand before a frame: none to 40, often about as many as may stand
+/// there, seldom thousands.
+pub fn fill(random: &mut Random) -> usize {
+    match random.below(300) {
+        0 => 1000 + random.below(4000),
+        1..=99 => random.below(3),
+        100..=199 => 31 + random.below(3),
+        _ => random.below(41),
+    }
 }
 
 /// One of the four frames, as the writers write it.

@@ -295,7 +295,7 @@ impl Told {
         if answer.is_empty() {
             return;
         }
-        let read = read_events(answer).expect("an answer of the devices");
+        let (_, read) = read_events(answer).expect("an answer of the devices");
         let Events::Packet {
             sender,
             flag,

@@ -7,6 +7,7 @@ use second::queues::{self, Heard, NewEvent, SLOTS_LENGTH};
 use second::refusal::Refusal;
 
 use crate::board::Board;
+use crate::fill::counted_events;
 use crate::lent::{hex, Lent};
 use crate::queues::Queues;
 use crate::session::{same, Form, Function, Session};
@@ -243,8 +244,8 @@ fn add_second(bus: &mut Bus, added: &Added) -> Result<(), Refusal> {
     queues::add_event(table, &mut bus.second.lent(), added.id, event)
 }
 
-/// Polls the devices on both sides. Gives the answer's bytes, or none when
-/// refused.
+/// Polls the devices on both sides, and reads what they answer, which has as many
+/// FF before it as the poll says. Gives the answer's bytes, or none when refused.
 pub fn poll(session: &mut Session, bus: &mut Bus, asked: Asked, room: usize) -> Option<Vec<u8>> {
     let before = bus.second.clone();
     let frame = match asked {
@@ -277,7 +278,11 @@ pub fn poll(session: &mut Session, bus: &mut Bus, asked: Asked, room: usize) -> 
     };
     let form = form(bus, &before, asked, dropped, second);
     session.note(function, form);
-    Some(archive_answer.part()[..second.length].to_vec())
+    let answer = archive_answer.part()[..second.length].to_vec();
+    let counted = counted_events(session, &answer);
+    let seed = session.seed();
+    assert_eq!(second.skipped, counted, "{}, seed {seed:#X}", hex(&answer));
+    Some(answer)
 }
 
 /// The device whose flag a call turned, so that its events were dropped.
@@ -373,25 +378,29 @@ fn offer_archive(bus: &mut Bus, frame: &Lent<u8>, answer: &mut Lent<u8>) -> sys:
     }
 }
 
+/// What a poll gives that is accepted and brings about silence.
+pub const SILENCE: sys::Polled = sys::Polled {
+    number: 0,
+    answer: 0,
+    sender: 0,
+    flag: 0,
+    events: 0,
+    place: 0,
+    length: 0,
+    skipped: 0,
+};
+
 fn poll_second(bus: &mut Bus, asked: &Asked, answer: &mut [u8]) -> sys::Polled {
     let (table, mut columns) = (table_of(&bus.board), bus.second.lent());
     let polled = match *asked {
         Asked::Poll(request) => queues::poll(request, table, &mut columns, answer),
         Asked::Offer(frame) => queues::offer_poll(frame, table, &mut columns, answer),
     };
-    let mut laid_out = sys::Polled {
-        number: 0,
-        answer: 0,
-        sender: 0,
-        flag: 0,
-        events: 0,
-        place: 0,
-        length: 0,
-    };
+    let mut laid_out = SILENCE;
     match polled {
         Err(Refusal { number, place }) => (laid_out.number, laid_out.place) = (number, place),
         Ok(polled) => {
-            laid_out.length = polled.length;
+            (laid_out.length, laid_out.skipped) = (polled.length, polled.skipped);
             match polled.heard {
                 Heard::Silence => {}
                 Heard::NoEvents { sender } => {

@@ -11,8 +11,9 @@ use crate::random::Random;
 /// The seed of a run that names no other.
 const SEED: u64 = 0x000E_B052_0017;
 /// The inputs of a run that asks for no other number. A recording that both
-/// sides listen to is one input, in however many runs it is fed.
-const INPUTS: u64 = 13_000_000;
+/// sides listen to is one input, in however many runs it is fed. An answer of
+/// devices that is read back is one more.
+const INPUTS: u64 = 15_000_000;
 
 /// Declares the functions of the C interface, each with the numbers that
 /// the rules and the header let it give.
@@ -50,7 +51,7 @@ functions! {
     Close "moor_close" [0 1 3 4 5 6 7 8 9 10 11 12]
     ReplyData "moor_reply_data" [0]
     ReadRequest "moor_read_request" [0 13 14 15 16]
-    ReadAnswer "moor_read_answer" [0 13 14 15 16 17]
+    ReadAnswer "moor_read_answer" [0 13 14 15 16 17 19]
     WriteRequest "moor_write_request" [0 1 15]
     WriteFound "moor_write_found" [0 1 17]
     WriteEnd "moor_write_end" [0 1]
@@ -62,7 +63,7 @@ functions! {
     Scan "moor_scan" [0 1 2]
     ReadEventRequest "moor_read_event_request" [0 13 14 15 16]
     WriteEventRequest "moor_write_event_request" [0 1]
-    ReadEvents "moor_read_events" [0 13 14 15 16]
+    ReadEvents "moor_read_events" [0 13 14 15 16 19]
     EventAt "moor_event_at" [0]
     WriteNoEvents "moor_write_no_events" [0 1]
     QueuesValid "moor_queues_valid" [0]
@@ -161,17 +162,47 @@ const FORMS: &[(Function, &[Form])] = &[
     (Function::Kind, &[[1, 0, 0], [2, 0, 0], [3, 0, 0]]),
     (Function::CheckRight, &[[0; 3], [1, 0, 0]]),
     (Function::ReadRequest, &[[1, 0, 0], [2, 0, 0]]),
-    (Function::ReadAnswer, &[[3, 0, 0], [4, 0, 0]]),
+    // A device found and the end; each behind no FF, behind some, and behind as
+    // many as may be.
+    (
+        Function::ReadAnswer,
+        &[
+            [3, 0, 0],
+            [3, 1, 0],
+            [3, 2, 0],
+            [4, 0, 0],
+            [4, 1, 0],
+            [4, 2, 0],
+        ],
+    ),
     (Function::TableValid, &[[0; 3], [1, 0, 0]]),
     // Silence, an answer 03, an answer 04.
     (Function::Start, &[[0; 3], [3, 0, 0]]),
     (Function::Resume, &[[0; 3], [3, 0, 0], [4, 0, 0]]),
     (Function::Offer, &[[0; 3], [3, 0, 0], [4, 0, 0]]),
-    (Function::Scan, &[[1, 0, 0], [2, 0, 0], [3, 0, 0]]),
-    // A packet of no event, of one and of more; no events.
+    // Complete, nobody, unfinished; without FF and with some.
+    (
+        Function::Scan,
+        &[[1, 1, 0], [2, 0, 0], [3, 0, 0], [3, 1, 0]],
+    ),
+    // A packet of no event, of one and of more; no events; each behind no FF,
+    // behind some, and behind as many as may be.
     (
         Function::ReadEvents,
-        &[[17, 0, 0], [17, 1, 0], [17, 2, 0], [18, 0, 0]],
+        &[
+            [17, 0, 0],
+            [17, 0, 1],
+            [17, 0, 2],
+            [17, 1, 0],
+            [17, 1, 1],
+            [17, 1, 2],
+            [17, 2, 0],
+            [17, 2, 1],
+            [17, 2, 2],
+            [18, 0, 0],
+            [18, 0, 1],
+            [18, 0, 2],
+        ],
     ),
     (Function::EventAt, &[[0; 3], [1, 0, 0]]),
     (Function::QueuesValid, &[[0; 3], [1, 0, 0]]),

@@ -40,10 +40,10 @@ enum-known-x-4 : tie.Need-enum-known-x-4
 enum-known-x-4 c = search needs
 
 returns : tie.Need-returns
-returns c = c .scan-ended .ensures ∙ ap (scannedForC (Complete (c .before .before .before .x .given .0 .0))) (c .before .one-less .ensures) ∙ ap answered (sym (c .before .before .before .x .given .1))
+returns c = c .scan-ended .ensures ∙ ap (scannedForC (Complete (c .before .before .before .x .given .0 .0) (c .before .before .before .x .given .0 .1 .0))) (c .before .one-less .ensures) ∙ ap answered (sym (c .before .before .before .x .given .1))
 
 returns-2 : tie.Need-returns-2
-returns-2 c = c .scan-ended2 .ensures ∙ ap (scannedForC (Nobody (c .before .before .before .x2 .given .0 .0))) (c .before .one-less2 .ensures) ∙ ap answered (sym (c .before .before .before .x2 .given .1))
+returns-2 c = c .scan-ended2 .ensures ∙ ap (scannedForC (Nobody (c .before .before .before .x2 .given .0 .0) (c .before .before .before .x2 .given .0 .1 .0))) (c .before .one-less2 .ensures) ∙ ap answered (sym (c .before .before .before .x2 .given .1))
 
 returns-3 : tie.Need-returns-3
 returns-3 c = c .scan-ended3 .ensures ∙ ap answered (sym (c .before .before .x3 .given .1))

@@ -1,10 +1,10 @@
--- `recordings::polling::played` is safe and ends.
+-- `recordings::script::played` is safe and ends.
 -- Assumes nothing.
 use Prim.Native.Nat.{_-_}
 use lib.ListN.{length}
 use borrow.Author.Needs.{needs}
-use Rattle.recordings.proofs.polling.played.Statement.{statement}
-use Rattle.recordings.proofs.polling.played.Tie as tie
+use Rattle.recordings.proofs.script.played.Statement.{statement}
+use Rattle.recordings.proofs.script.played.Tie as tie
 
 abbrev Inv-loop : tie.InvT-loop
 Inv-loop text t₀ bus₀ at₀ i₀ t bus at i = Unit {0}
