@@ -1,7 +1,8 @@
 /*
  * every_call.c - every function of moortinker.h on the worked examples of
  * docs/RULES.md (W1 to W14), on the event frames that document 000 prints and
- * the Railbus packets that document 001 prints, and on its edges.
+ * the Railbus packets that document 001 prints, on small captures, and on its
+ * edges; and what the header has beside functions, its version and its texts.
  *
  * Each call prints a line with what it gave. What it gave is compared with
  * what they say; a difference is printed below the line. The last line
@@ -66,6 +67,10 @@ AT(moor_fed, used, 128);
 SIZE(moor_closed, 152);
 AT(moor_closed, judged, 0);
 AT(moor_closed, state, 24);
+
+SIZE(moor_stretch, 16);
+AT(moor_stretch, start, 0);
+AT(moor_stretch, end, 8);
 
 SIZE(moor_part, 24);
 AT(moor_part, attempt, 0);
@@ -254,6 +259,38 @@ static void written(moor_written got, outcome must)
     EXPECT(got.place == must.place);
     EXPECT(got.length == must.wrote.length);
     EXPECT(starts(out, must.wrote));
+}
+
+/* ---- Version and texts --------------------------------------------------- */
+
+static void version(void)
+{
+    char joined[32];
+    snprintf(joined, sizeof joined, "%d.%d.%d", MOOR_VERSION_MAJOR, MOOR_VERSION_MINOR,
+             MOOR_VERSION_PATCH);
+    printf("MOOR_VERSION -> %s\n", MOOR_VERSION);
+    EXPECT(strcmp(joined, MOOR_VERSION) == 0);
+}
+
+static void text(uint8_t number, const char *must)
+{
+    const char *got = moor_text(number);
+    printf("moor_text %u -> %s\n", number, got);
+    EXPECT(strcmp(got, must) == 0);
+}
+
+static void texts(void)
+{
+    const char *other = "no such number";
+    text(MOOR_ACCEPTED, "accepted");
+    text(MOOR_OUTPUT_SHORT, "output too short");
+    text(MOOR_BUS_ERROR, "bus error");
+    text(MOOR_FILL_OVER, "over 32 FF");
+    text(20, other);
+    text(25, other);
+    text(MOOR_DIGIT_WRONG, "no hex digit");
+    text(27, other);
+    text(255, other);
 }
 
 /* ---- Checks -------------------------------------------------------------- */
@@ -674,6 +711,131 @@ static void data_of_replies(void)
     reply_data(BYTES(0x00, 0x00), none, 1, (moor_part){1, 1, 0});
     reply_data(BYTES(REPLY), BYTES(0x00, 0x00), 2, (moor_part){2, 1, 0});
     reply_data(none, none, 1, empty);
+}
+
+/* ---- Captures ------------------------------------------------------------ */
+
+#define BROADCAST 0x10, 0xFE, 0xB5, 0x11, 0x01, 0x01, 0x10, SYN
+
+static void next_exchange(bytes capture, size_t at, size_t start, size_t end)
+{
+    moor_stretch got = moor_next_exchange(capture.start, capture.length, at);
+    print_call("moor_next_exchange", capture);
+    printf("from %zu: %zu to %zu\n", at, got.start, got.end);
+    EXPECT(got.start == start);
+    EXPECT(got.end == end);
+}
+
+static void captures_without_exchanges(void)
+{
+    next_exchange(none, 0, 0, 0);
+    next_exchange(none, 1, 0, 0);
+    next_exchange(none, SIZE_MAX, 0, 0);
+    next_exchange(BYTES(SYN), 0, 1, 1);
+    next_exchange(BYTES(SYN, SYN, SYN), 0, 3, 3);
+    next_exchange(BYTES(SYN, SYN, SYN), 2, 3, 3);
+    next_exchange(BYTES(BROADCAST), 8, 8, 8);
+    next_exchange(BYTES(BROADCAST), 9, 8, 8);
+    next_exchange(BYTES(BROADCAST), SIZE_MAX, 8, 8);
+    next_exchange(BYTES(0x10, 0xA9, SYN, 0xA9, SYN, 0xFF, SYN), 0, 7, 7);
+}
+
+/* The four pieces of idle time, alone and one behind the other. */
+static void captures_behind_idle_time(void)
+{
+    next_exchange(BYTES(BROADCAST), 0, 0, 8);
+    next_exchange(BYTES(SYN, BROADCAST), 0, 1, 9);
+    next_exchange(BYTES(0xA9, SYN, BROADCAST), 0, 2, 10);
+    next_exchange(BYTES(0x31, SYN, BROADCAST), 0, 2, 10);
+    next_exchange(BYTES(0x31, 0xA9, SYN, BROADCAST), 0, 3, 11);
+    next_exchange(BYTES(SYN, 0xFF, 0xA9, SYN, 0xA9, SYN, 0x00, SYN, SYN, BROADCAST), 0, 9, 17);
+    next_exchange(BYTES(0x31, 0xA9, SYN, BROADCAST), 1, 3, 11);
+    next_exchange(BYTES(0x31, 0xA9, SYN, BROADCAST), 4, 4, 11);
+}
+
+/* What looks like idle time and is none. */
+static void captures_without_idle_time(void)
+{
+    next_exchange(BYTES(0x02, SYN, BROADCAST), 0, 0, 2);       /* no initiator */
+    next_exchange(BYTES(0xA9, 0x00, SYN, BROADCAST), 0, 0, 3); /* an escape that is whole */
+    next_exchange(BYTES(0xA9, 0xA9, SYN, BROADCAST), 0, 0, 3);
+    next_exchange(BYTES(0x10, 0x31, SYN, BROADCAST), 0, 0, 3);
+    next_exchange(BYTES(0x10), 0, 0, 1);
+    next_exchange(BYTES(SYN, 0xA9), 0, 1, 2);
+    next_exchange(BYTES(SYN, 0x10, 0xA9), 0, 1, 3);
+}
+
+/* The answer to the bytes of a stretch. */
+static moor_judged answer_to(bytes capture, moor_stretch e)
+{
+    return moor_judge(capture.start + e.start, e.end - e.start, command, MOOR_COMMAND_ROOM,
+                      reply_1, MOOR_REPLY_ROOM, reply_2, MOOR_REPLY_ROOM);
+}
+
+/* The first exchange of a capture, with its answer. */
+static void first_exchange(bytes capture, size_t start, size_t end, uint8_t number, size_t place)
+{
+    next_exchange(capture, 0, start, end);
+    moor_judged got = answer_to(capture, (moor_stretch){start, end});
+    EXPECT(got.number == number);
+    EXPECT(got.place == place);
+    EXPECT(got.read == (number == MOOR_ACCEPTED ? end - start : 0));
+}
+
+static void exchanges_of_captures(void)
+{
+    first_exchange(BYTES(SYN, COMMAND, ACK, REPLY, ACK, SYN, SYN), 1, 14, MOOR_ACCEPTED, 0);
+    /* The SYN that decides is the end. */
+    first_exchange(BYTES(0x10, 0x08, SYN, BROADCAST), 0, 3, MOOR_SYN_EARLY, 2);
+    first_exchange(BYTES(COMMAND, SYN, BROADCAST), 0, 8, MOOR_SYN_EARLY, 7);
+    /* Bytes behind the one that decides. */
+    first_exchange(BYTES(COMMAND, 0x55, REPLY, ACK, SYN, BROADCAST), 0, 13, MOOR_BUS_ERROR, 7);
+    first_exchange(BYTES(WRONG_COMMAND, ACK, REPLY, ACK, SYN), 0, 13, MOOR_CHECK_WRONG, 6);
+    first_exchange(BYTES(COMMAND, ACK, REPLY, ACK, 0x55, 0x10, SYN), 0, 15, MOOR_BUS_ERROR, 12);
+    /* No SYN. */
+    first_exchange(BYTES(SYN, SYN, COMMAND, ACK, 0x01), 2, 11, MOOR_RUN_ENDED, 9);
+    first_exchange(BYTES(COMMAND, 0x55, REPLY), 0, 11, MOOR_BUS_ERROR, 7);
+}
+
+/* Walks a capture: each byte is passed over, as idle time that judging finds
+ * nothing in, or in exactly one of these many exchanges. */
+static void walk(bytes capture, unsigned exchanges, unsigned accepted)
+{
+    unsigned found = 0, taken = 0;
+    size_t at = 0;
+    print_call("moor_next_exchange, over all of", capture);
+    for (;;) {
+        moor_stretch e = moor_next_exchange(capture.start, capture.length, at);
+        EXPECT(at <= e.start && e.start <= e.end && e.end <= capture.length);
+        moor_judged idle = answer_to(capture, (moor_stretch){at, e.start});
+        EXPECT(idle.number == MOOR_RUN_ENDED && idle.place == e.start - at);
+        EXPECT(e.start == at || capture.start[e.start - 1] == SYN);
+        at = e.end;
+        if (e.start == e.end)
+            break;
+        for (size_t i = e.start; i + 1 < e.end; i++)
+            EXPECT(capture.start[i] != SYN);
+        EXPECT(capture.start[e.end - 1] == SYN || e.end == capture.length);
+        found++;
+        taken += answer_to(capture, e).number == MOOR_ACCEPTED;
+    }
+    printf("%u exchanges, %u accepted\n", found, taken);
+    EXPECT(at == capture.length);
+    EXPECT(found == exchanges);
+    EXPECT(taken == accepted);
+}
+
+static void captures_walked(void)
+{
+    walk(BYTES(SYN), 0, 0);
+    walk(BYTES(SYN, 0x10, 0xA9, SYN, SYN), 0, 0);
+    walk(BYTES(SYN, SYN, COMMAND, ACK, REPLY, ACK, SYN,       /* accepted */
+               SYN, COMMAND, 0x55, REPLY, ACK, SYN,           /* a bus error, bytes behind it */
+               BROADCAST, 0x10, 0x08, SYN,                    /* accepted; SYN early */
+               WRONG_COMMAND, NACK, COMMAND, ACK, REPLY, ACK, /* NACKed once, accepted */
+               SYN, 0x31, SYN, BROADCAST,                     /* 31 gave way; accepted */
+               0x10, 0x08, 0xB5),                             /* cut off */
+         7, 4);
 }
 
 /* ---- Bytes as they arrive ------------------------------------------------ */
@@ -2481,6 +2643,8 @@ static void relays_refused(void)
 
 int main(void)
 {
+    version();
+    texts();
     checks();
     addresses();
     logical_bytes();
@@ -2502,6 +2666,11 @@ int main(void)
     listening_closed();
     any_states();
     data_of_replies();
+    captures_without_exchanges();
+    captures_behind_idle_time();
+    captures_without_idle_time();
+    exchanges_of_captures();
+    captures_walked();
     requests_read();
     answers_read();
     frames_written();

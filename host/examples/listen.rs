@@ -15,6 +15,9 @@
 //! so each line names where in the dump its exchange starts, and idle time at
 //! the end is no exchange that was cut off. The place of a refusal counts from
 //! the start named.
+//!
+//! A dump that is in memory as a whole is walked by `ebus::exchanges`, which
+//! gives the same starts and answers.
 
 use std::io::{self, Read};
 

@@ -2,9 +2,13 @@
  * moortinker.h - the bus core of a plant-room gateway: eBUS to the boilers,
  * Fast Modbus to the sensors, Railbus to the relays.
  *
- * Link with libmoortinker.a (`host/archive` writes it to
- * target/staticlib/). x86-64 Linux. The library keeps no state, allocates
- * nothing and calls nothing but memcpy and memset.
+ * Link with libmoortinker.a or libmoortinker.so. `host/install PREFIX` installs
+ * both with this header and a file for pkg-config, and then
+ *
+ *     gcc program.c $(pkg-config --cflags --libs moortinker)
+ *
+ * is enough. x86-64 Linux. The library keeps no state, allocates nothing and
+ * calls nothing but memcpy and memset.
  *
  * Example: the data that a boiler replied in a recorded exchange.
  *
@@ -17,7 +21,8 @@
  *                                     replies[0], sizeof replies[0],
  *                                     replies[1], sizeof replies[1]);
  *     if (judged.number != MOOR_ACCEPTED) {
- *         printf("refused %u at %zu\n", judged.number, judged.place);
+ *         printf("refused %u at %zu: %s\n", judged.number, judged.place,
+ *                moor_text(judged.number));
  *         return 1;
  *     }
  *     moor_part data = moor_reply_data(replies[0], sizeof replies[0],
@@ -53,6 +58,10 @@
 #ifndef MOORTINKER_H
 #define MOORTINKER_H
 
+#if !defined(__x86_64__) || !defined(__linux__) || defined(__ILP32__)
+#error "Moortinker is for x86-64 Linux with 64-bit pointers alone"
+#endif
+
 #include <stdbool.h>
 #include <stddef.h>
 #include <stdint.h>
@@ -60,6 +69,13 @@
 #ifdef __cplusplus
 extern "C" {
 #endif
+
+/* ---- Version ------------------------------------------------------------ */
+
+#define MOOR_VERSION_MAJOR 0
+#define MOOR_VERSION_MINOR 2
+#define MOOR_VERSION_PATCH 0
+#define MOOR_VERSION       "0.2.0"
 
 /* ---- Numbers handed back on refusal ------------------------------------- */
 
@@ -95,6 +111,35 @@ extern "C" {
                                      33rd, which is 32 */
 #define MOOR_DIGIT_WRONG       26 /* no upper-case hex digit where one is due in a
                                      Railbus packet; place: the character */
+
+/* What a number says, in a few words. It stands here and not in the library. */
+static inline const char *moor_text(uint8_t number)
+{
+    switch (number) {
+    case MOOR_ACCEPTED: return "accepted";
+    case MOOR_OUTPUT_SHORT: return "output too short";
+    case MOOR_TABLE_NOT_VALID: return "table not valid";
+    case MOOR_RUN_ENDED: return "run ended";
+    case MOOR_ESCAPE_WRONG: return "wrong escape";
+    case MOOR_SYN_EARLY: return "SYN too early";
+    case MOOR_SOURCE_WRONG: return "source no initiator";
+    case MOOR_DESTINATION_WRONG: return "destination A9 or AA";
+    case MOOR_LENGTH_OVER: return "LEN over 16";
+    case MOOR_CHECK_WRONG: return "wrong check byte";
+    case MOOR_COMMAND_NACKED: return "command NACKed twice";
+    case MOOR_REPLY_NACKED: return "reply NACKed twice";
+    case MOOR_BUS_ERROR: return "bus error";
+    case MOOR_FRAME_LENGTH: return "wrong length";
+    case MOOR_FRAME_HEAD: return "wrong mark";
+    case MOOR_SUBCOMMAND_WRONG: return "subcommand or letter not taken";
+    case MOOR_FRAME_CHECK: return "wrong check";
+    case MOOR_SERIAL_OVER: return "serial too large";
+    case MOOR_QUEUE_FULL: return "queue full";
+    case MOOR_FILL_OVER: return "over 32 FF";
+    case MOOR_DIGIT_WRONG: return "no hex digit";
+    default: return "no such number";
+    }
+}
 
 /* ---- Other constants ---------------------------------------------------- */
 
@@ -231,6 +276,12 @@ typedef struct {
     moor_judged judged;
     moor_listening state;
 } moor_closed;
+
+/* A part of a capture: the bytes from `start` on that stand before `end`. */
+typedef struct {
+    size_t start;
+    size_t end;
+} moor_stretch;
 
 /* Where a reply's data stands: `length` bytes from `start` of the buffer of
  * attempt 1 or 2. */
@@ -553,6 +604,36 @@ moor_closed moor_close(moor_listening state,
 moor_part moor_reply_data(const uint8_t *reply_1, size_t reply_1_length,
                           const uint8_t *reply_2, size_t reply_2_length,
                           uint8_t attempt);
+
+/* ---- eBUS: captures ------------------------------------------------------ */
+
+/* Where the next exchange of a capture of any length stands, from position
+ * `at` on.
+ *
+ * A raw AA is always SYN, so that SYN parts one exchange from the next. Idle
+ * time, as moor_judge has it (any number of pieces AA, A9 AA, S AA and
+ * S A9 AA, S an initiator's address), is passed over; the first byte behind it
+ * is `start`. The stretch from there goes on through the next AA, and where
+ * there is none to the end of the capture; `end` is the position behind it,
+ * from which the exchange after it is looked for. Where no exchange is left,
+ * and where `at` is no position of the capture, both are `capture_length`.
+ *
+ * moor_judge on the stretch gives the answer; places count from `start`. An
+ * exchange that is accepted is all of it. One that is refused is decided by one
+ * of its bytes, and what stands behind that byte belongs to no exchange; or the
+ * capture ends first, which is MOOR_RUN_ENDED. moor_feed of a fresh state uses
+ * just the exchange's bytes of its stretch. So a capture is walked by
+ *
+ *     moor_stretch e = moor_next_exchange(capture, length, 0);
+ *     while (e.start < e.end) {
+ *         moor_judged judged = moor_judge(capture + e.start, e.end - e.start,
+ *                                         command, sizeof command, ..);
+ *         e = moor_next_exchange(capture, length, e.end);
+ *     }
+ *
+ * Never refuses. */
+moor_stretch moor_next_exchange(const uint8_t *capture, size_t capture_length,
+                                size_t at);
 
 /* ---- Fast Modbus: scan frames ------------------------------------------- */
 

@@ -162,6 +162,12 @@ pub(crate) fn reply_data(reply_1: &[u8], reply_2: &[u8], attempt: u8) -> sys::Pa
     }
 }
 
+pub(crate) fn next_exchange(capture: &[u8], at: usize) -> sys::Stretch {
+    // SAFETY: pointer and length of one slice, which is only read; any
+    // position may be asked for.
+    unsafe { sys::moor_next_exchange(capture.as_ptr(), capture.len(), at) }
+}
+
 pub(crate) fn read_request(input: &[u8]) -> sys::RequestRead {
     // SAFETY: pointer and length of one slice, which is only read.
     unsafe { sys::moor_read_request(input.as_ptr(), input.len()) }

@@ -1,5 +1,6 @@
 //! eBUS: check byte, escapes, addresses, telegrams, and the judging of
-//! exchanges, recorded whole or as their bytes arrive.
+//! exchanges: recorded one by one ([`judge`]), one after the other in a capture
+//! ([`exchanges`]), or as their bytes arrive ([`Listener`]).
 //!
 //! *Raw* bytes are those on the wire. *Logical* bytes are those meant: on the
 //! wire every A9 becomes A9 00 and every AA becomes A9 01, since a raw AA is
@@ -10,10 +11,12 @@ use std::fmt;
 use crate::refusal::length_of;
 use crate::{call, sys, Refusal};
 
+mod capture;
 mod exchange;
 mod listener;
 mod telegram;
 
+pub use capture::{exchanges, Exchanges};
 pub use exchange::{judge, judge_into, reply_data, Exchange, Judged, COMMAND_ROOM, REPLY_ROOM};
 pub use listener::Listener;
 pub use telegram::{

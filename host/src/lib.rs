@@ -13,43 +13,80 @@
 //! and allocate nothing; a [`Refusal`] leaves it as it was. Those that return
 //! a `Vec` or a value of their own are the same calls with room of their own.
 //!
-//! W7, a command to a boiler with its reply, as recorded on the wire:
+//! # eBUS
+//!
+//! The exchanges of a capture: idle time, a command to a boiler with its reply,
+//! and one with 55 where it should be acknowledged.
 //!
 //! ```
-//! use moortinker::ebus;
+//! use moortinker::{ebus, Reason, Refusal};
 //!
-//! let run = [0x10, 0x08, 0xB5, 0x11, 0x01, 0x01, 0x89, 0x00, 0x01, 0x2A, 0xB1, 0x00, 0xAA];
-//! let exchange = ebus::judge(&run)?;
-//! assert_eq!(exchange.kind(), ebus::Kind::InitiatorTarget);
-//! assert_eq!(exchange.data(), [0x2A]);
-//! assert_eq!(exchange.bytes_read(), 13);
+//! let capture = [
+//!     0xAA, 0xAA, //
+//!     0x10, 0x08, 0xB5, 0x11, 0x01, 0x01, 0x89, 0x00, 0x01, 0x2A, 0xB1, 0x00, 0xAA, //
+//!     0x10, 0x08, 0xB5, 0x11, 0x01, 0x01, 0x89, 0x55, 0x01, 0x2A, 0xB1, 0x00, 0xAA,
+//! ];
+//! let mut exchanges = ebus::exchanges(&capture);
+//! let (offset, answer) = exchanges.next().unwrap();
+//! let exchange = answer?;
+//! assert_eq!((offset, exchange.kind()), (2, ebus::Kind::InitiatorTarget));
+//! assert_eq!((exchange.service(), exchange.data()), ((0xB5, 0x11), &[0x2A][..]));
+//! assert_eq!(exchanges.next(), Some((15, Err(Refusal::new(Reason::BusError, 7)))));
+//! assert_eq!(exchanges.next(), None);
 //! # Ok::<(), moortinker::Refusal>(())
 //! ```
 //!
-//! Bytes that arrive in runs are judged by an [`ebus::Listener`] in the same way.
+//! [`ebus::judge`] judges one exchange, and an [`ebus::Listener`] one whose bytes
+//! arrive in runs.
 //!
-//! W12, a scan of three sensors:
+//! # Fast Modbus
+//!
+//! A scan of three sensors, and a poll for the event that one of them has; the
+//! next poll confirms it.
 //!
 //! ```
 //! use moortinker::devices::{ScanEnd, Table};
+//! use moortinker::events::{read_answer, Answer, Event, Queues, Request};
 //!
 //! let mut table = Table::new([0x0001EB37, 5, 9], [0x0C, 0x02, 0x03], [0, 0, 0])?;
 //! let scan = table.scan(100);
-//! assert_eq!(scan.end(), ScanEnd::Complete);
-//! assert_eq!(scan.requests(), 4);
+//! assert_eq!((scan.end(), scan.requests()), (ScanEnd::Complete, 4));
 //! let serials: Vec<u32> = scan.heard().map(|device| device.serial).collect();
 //! assert_eq!(serials, [5, 9, 0x0001EB37]);
+//!
+//! let mut queues = Queues::fresh(&table)?;
+//! let change = Event { kind: 4, identifier: 0x01D0, data: &[0x04, 0x00] };
+//! queues.add(&table, 0x0C, false, change)?;
+//! let request = Request { minimum: 0, most: 100, confirmed: 0, flag: 0 };
+//! let reply = queues.poll(&table, request)?.expect("a table with devices answers");
+//! let Answer::Packet(packet) = read_answer(reply.bytes())?.answer else {
+//!     unreachable!("device 0C has an event");
+//! };
+//! assert_eq!((packet.sender(), packet.events().next()), (0x0C, Some(change)));
+//!
+//! let confirming = Request { confirmed: packet.sender(), flag: packet.flag(), ..request };
+//! let reply = queues.poll(&table, confirming)?.expect("a table with devices answers");
+//! assert_eq!(read_answer(reply.bytes())?.answer, Answer::NoEvents);
 //! # Ok::<(), moortinker::Refusal>(())
 //! ```
 //!
-//! A packet that switches a relay, as document 001 has it, with its checksum:
+//! # Railbus
+//!
+//! A packet that switches a relay, as document 001 has it, with its checksum; the
+//! relay says that it was received, and later that it is done.
 //!
 //! ```
-//! use moortinker::railbus::{read, Message, Packet};
+//! use moortinker::railbus::{Message, Packet, Relay, READ_WRITE};
 //!
-//! let packet = Packet { address: 0x93, register: 0, message: Message::Write(0x10) };
-//! assert_eq!(packet.to_string(), "RP93W00000000109F");
-//! assert_eq!(read(b"RP93I0000000010EE")?.packet.message, Message::WriteDone(0x10));
+//! let mut relay = Relay::fresh(0x93, [READ_WRITE; 256])?;
+//! let on = Packet { address: 0x93, register: 0, message: Message::Write(0x10) };
+//! assert_eq!(on.to_string(), "RP93W00000000109F");
+//! let reply = relay.offer(on.to_string().as_bytes())?.expect("a write is answered");
+//! assert_eq!(reply.text(), "RP93n0000000001A5");
+//!
+//! let reply = relay.finish().expect("the write runs");
+//! assert_eq!(reply.packet().message, Message::WriteDone(0x10));
+//! assert_eq!(relay.registers()[0], 0x10);
 //! # Ok::<(), moortinker::Refusal>(())
 //! ```
 

@@ -280,6 +280,16 @@ pub struct Closed {
     pub state: Listening,
 }
 
+/// A part of a capture: the bytes from `start` on that stand before `end`.
+#[repr(C)]
+#[derive(Clone, Copy, Debug, PartialEq, Eq)]
+pub struct Stretch {
+    /// Where it starts.
+    pub start: usize,
+    /// The position behind it.
+    pub end: usize,
+}
+
 /// Where a reply's data stands.
 #[repr(C)]
 #[derive(Clone, Copy, Debug, PartialEq, Eq)]
@@ -599,6 +609,9 @@ extern "C" {
         attempt: u8,
     ) -> Part;
 
+    /// The next exchange of a capture from a position on.
+    pub fn moor_next_exchange(capture: *const u8, capture_length: usize, at: usize) -> Stretch;
+
     /// What a request frame asks.
     pub fn moor_read_request(input: *const u8, input_length: usize) -> RequestRead;
 
@@ -869,6 +882,7 @@ mod tests {
         }
         fed: Fed 136 8 { state 0 used 128 }
         closed: Closed 152 8 { judged 0 state 24 }
+        stretch: Stretch 16 8 { start 0 end 8 }
         part: Part 24 8 { attempt 0 start 8 length 16 }
         request_read: RequestRead 16 8 { number 0 request 1 place 8 }
         answer_read: AnswerRead 24 8 { number 0 answer 1 address 2 serial 4 place 8 skipped 16 }

@@ -1,8 +1,9 @@
 //! The archive held against the second implementation, input by input: answers,
 //! refusals with their places, and everything that was lent, with what lies
 //! around it. Its listener, fed in runs, is also held against its own judge of
-//! the whole, its readers of answers against what they say of a frame without its
-//! FF, and its scans against the same requests one by one.
+//! the whole, its walks over captures, byte by byte, against a listener, its
+//! readers of answers against what they say of a frame without its FF, and its
+//! scans against the same requests one by one.
 //!
 //! `MOORTINKER_SEED` names another seed than the fixed one, decimal or 0x hex,
 //! and `MOORTINKER_INPUTS` another number of random inputs.
@@ -13,6 +14,8 @@
 mod board;
 #[path = "differential/calls.rs"]
 mod calls;
+#[path = "differential/captures.rs"]
+mod captures;
 #[path = "differential/cuts.rs"]
 mod cuts;
 #[path = "differential/edges.rs"]
@@ -55,6 +58,8 @@ mod relay;
 mod relaying;
 #[path = "differential/session.rs"]
 mod session;
+#[path = "differential/standins.rs"]
+mod standins;
 #[path = "differential/states.rs"]
 mod states;
 #[path = "differential/tables.rs"]
@@ -65,12 +70,14 @@ use std::fmt::Debug;
 use std::panic::{catch_unwind, AssertUnwindSafe};
 
 use calls::{NO_ANSWER_READ, NO_EVENTS_READ};
+use captures::Next;
 use hearing::settled;
 use lent::{Lent, MARGIN};
 use moortinker::sys;
 use polls::SILENCE;
 use random::Random;
 use relay::{laid_out, remembered, Device};
+use second::capture::report;
 use second::events::read_events;
 use second::exchange::judge;
 use second::frames::read_answer;
@@ -101,6 +108,23 @@ fn idle_time_reaches_every_number() {
     }
     let reached: Vec<u8> = numbers.into_iter().collect();
     assert_eq!(reached, [0, 3, 4, 5, 6, 7, 8, 9, 10, 11, 12]);
+}
+
+#[test]
+fn captures_reach_every_kind_and_number() {
+    let mut random = Random::new(9);
+    let mut numbers = BTreeSet::new();
+    let mut kinds = [0; 3];
+    for _ in 0..2_000 {
+        let told = report(&captures::random_capture(&mut random));
+        numbers.extend(told.refused.into_keys());
+        kinds[0] += told.broadcasts;
+        kinds[1] += told.initiator_initiator;
+        kinds[2] += told.initiator_target;
+    }
+    let reached: Vec<u8> = numbers.into_iter().collect();
+    assert_eq!(reached, [3, 4, 5, 6, 7, 8, 9, 10, 11, 12]);
+    assert!(kinds.iter().all(|&count| count > 300), "{kinds:?}");
 }
 
 #[test]
@@ -332,6 +356,33 @@ fn a_changed_register_or_access_byte_is_a_difference() {
         assert!(device.compare().is_err());
         device.access.whole_mut()[at] ^= 1;
     }
+}
+
+#[test]
+fn wrong_next_exchanges_are_noticed() {
+    let (positions, walks) = (captures::positions_by, captures::walks_by);
+    for &(name, wrong) in standins::WRONG {
+        assert!(noticed(positions, wrong), "from positions on: {name}");
+        assert!(noticed(walks, wrong), "in walks: {name}");
+    }
+    assert!(noticed(positions, standins::position_kept));
+    assert!(!noticed(positions, standins::right));
+    assert!(!noticed(walks, standins::right));
+}
+
+/// Whether a difference ends a run that takes this for `moor_next_exchange`.
+fn noticed(family: fn(&mut Session, Next), next: Next) -> bool {
+    let mut session = Session::quiet(8);
+    let ended = catch_unwind(AssertUnwindSafe(|| {
+        for _ in 0..2_000 {
+            family(&mut session, next);
+        }
+    }));
+    ended.is_err_and(|payload| {
+        let message = payload.downcast_ref::<String>().expect("a message");
+        assert!(message.starts_with("moor_next_exchange differs"));
+        true
+    })
 }
 
 #[test]

@@ -1,7 +1,7 @@
 //! The numbers of refusals have one list, docs/numbers.txt. Every place that
 //! names them is held to it: the proved constants and definitions, the words of
-//! the desk tool, the C header, this crate, the second implementation and the
-//! table in README.md. Numbers may have gaps.
+//! the desk tool, the C header with its texts, this crate, the second
+//! implementation and the table in README.md. Numbers may have gaps.
 
 use std::fs;
 use std::path::Path;
@@ -146,18 +146,18 @@ fn the_definitions() {
 
 #[test]
 fn the_words_of_the_desk_tool() {
-    let path = "crates/desk/src/names.rt";
+    let path = "crates/spelling/src/lib.rt";
     let text = file(path);
     let names = text
-        .split("b\"")
+        .split("let names = b\"")
         .nth(1)
         .and_then(|part| part.split('"').next());
     let names = names.unwrap_or_else(|| panic!("{path}: no list of names"));
-    let pair = |line: &str| {
-        let (number, name) = line.split_once(' ').unwrap_or((line, ""));
-        (number_in(number, path), name.to_string())
-    };
-    let found: Vec<(u8, String)> = names.lines().map(pair).collect();
+    // A line for each number from 0 on, empty where it is not in use.
+    let found: Vec<(u8, String)> = (0..)
+        .zip(names.lines().map(String::from))
+        .filter(|(_, name)| !name.is_empty())
+        .collect();
     assert_same(path, &found, |line| (line.number, line.name.clone()));
 }
 
@@ -173,6 +173,25 @@ fn the_header() {
     let found = numbered(pairs(section, "#define MOOR_", " ", "/*"), path);
     assert_eq!(found[0], ("ACCEPTED".to_string(), 0), "{path}");
     assert_same(path, &found[1..], constant_and_number);
+}
+
+#[test]
+fn the_texts_of_the_header() {
+    let path = "host/include/moortinker.h";
+    let text = file(path);
+    let function = text.split("\nstatic inline const char *moor_text(").nth(1);
+    let body = function.and_then(|rest| rest.split("\n}\n").next());
+    let body = body.unwrap_or_else(|| panic!("{path}: no moor_text"));
+    let found = pairs(body, "case MOOR_", ": return \"", "\";");
+    let accepted = ("ACCEPTED".to_string(), "accepted".to_string());
+    assert_eq!(found[0], accepted, "{path}");
+    assert_same(path, &found[1..], |line| {
+        (line.constant.clone(), line.name.clone())
+    });
+    assert!(
+        body.contains("default: return \"no such number\";"),
+        "{path}: no text for other numbers"
+    );
 }
 
 #[test]

@@ -2,6 +2,8 @@
 //! place, what stays on a refusal, the edges, and empty inputs. States of
 //! listening that no feeding makes are handed to the C interface itself.
 
+#[path = "wrapper/captures.rs"]
+mod captures;
 #[path = "wrapper/railbus.rs"]
 mod railbus;
 

@@ -36,6 +36,14 @@ pub const NO_ROW: u8 = 14;
 
 pub const NOT_LETTER: u8 = 15;
 
+pub const NOTHING_BEFORE: u8 = 16;
+
+pub const NOTHING_BEHIND: u8 = 17;
+
+pub const NOT_SWITCH: u8 = 18;
+
+pub const NO_MEANING: u8 = 19;
+
 // The offset in the line says where.
 pub struct Fault {
     pub what: u8,
@@ -50,7 +58,7 @@ pub fn fault_at(what: u8, at: usize) -> Fault {
 fn say_what(page: Page, what: u8) -> Page {
     numbered(
         page,
-        b"1 no such command
+        b"1 no such command; help lists the commands
 2 a word is missing
 3 a word too many
 4 not a hexadecimal digit
@@ -65,6 +73,10 @@ fn say_what(page: Page, what: u8) -> Page {
 13 neither urgent nor normal
 14 no such row
 15 none of R, S, N, W, K, I, n
+16 no byte before this separator
+17 no byte behind this separator
+18 neither on nor off
+19 no such number
 ",
         what,
         no_number(),

@@ -1,6 +1,9 @@
 // What the desk tool's commands share: what a line holds, what the tool keeps from line to line, and
 // the page that answers are put on.
+pub mod expected;
+pub mod explain;
 pub mod fault;
+pub mod heard;
 pub mod hex;
 mod names;
 pub mod number;

@@ -1,38 +1,20 @@
 // The short names of the numbers of refusals, and how a numbered line of a list is said.
+use crate::part::start_of;
 use crate::say;
 use crate::say::Numbers;
 use crate::say::Page;
-use crate::say::no_number;
 use crate::word;
+use spelling::LINE;
 
-// A line for each number, as in docs/numbers.txt.
 pub(crate) fn name(page: Page, number: u8) -> Page {
-    numbered(
-        page,
-        b"1 output too short
-2 table not valid
-3 run ended
-4 wrong escape
-5 SYN too early
-6 source no initiator
-7 destination A9 or AA
-8 LEN over 16
-9 wrong check byte
-10 command NACKed twice
-11 reply NACKed twice
-12 bus error
-13 wrong length
-14 wrong mark
-15 subcommand or letter not taken
-16 wrong check
-17 serial too large
-18 queue full
-19 over 32 FF
-26 no hex digit
-",
-        number,
-        no_number(),
-    )
+    let mut line = [0u8; LINE];
+    let n = spelling::name(0, &mut line, number);
+    put_line(page, &line, n)
+}
+
+// The first n bytes of a line.
+fn put_line(page: Page, line: &[u8; LINE], n: usize) -> Page {
+    say::put(page, start_of(line, n))
 }
 
 // Says the words of the line that begins with this number, filled with these.

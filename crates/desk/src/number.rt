@@ -8,7 +8,7 @@ use crate::fault::TOO_LARGE;
 use crate::fault::TOO_MANY_DIGITS;
 use crate::fault::fault_at;
 use crate::word;
-ghost use Prim.Native.Nat.{_≤_};
+ghost use Prim.Native.Nat.{_≤_, _<_};
 ghost use lib.ListN.{length};
 
 // A number and where the rest of the line begins, or what was wrong.
@@ -51,6 +51,23 @@ fn number_in(line: &[u8], from: usize, to: usize, base: u64) -> NumberRead
         i += 1;
     }
     NumberRead::Number(value, to)
+}
+
+// Where the digits of the number at this place begin: behind 0x, where that and more stands there.
+pub(crate) fn behind_prefix(line: &[u8], at: usize) -> usize
+    requires { ⌜ at < length (now line) ⌝ }
+    ensures { λ r. ⌜ (at ≤ r) × (r < length (now (line .entry))) ⌝ }
+{
+    if line.len() - at < 3 {
+        return at;
+    }
+    if line[at] != b'0' {
+        return at;
+    }
+    if line[at + 1] != b'x' {
+        return at;
+    }
+    at + 2
 }
 
 // The number that the word from `from` to `to` is: decimal, or hexadecimal with 0x.
@@ -110,6 +127,21 @@ pub fn digits(line: &[u8], at: usize, most: usize) -> NumberRead {
     number_in(line, from, to, 16)
 }
 
+// The byte that is the next word from `at` on: one or two hexadecimal digits, 0x before them or not.
+pub fn one_byte(line: &[u8], at: usize) -> NumberRead {
+    let w = word::next(line, at);
+    let from = w.from;
+    let to = w.to;
+    if to - from < 3 {
+        return digits(line, at, 2);
+    }
+    let first = behind_prefix(line, from);
+    if first == from {
+        return digits(line, at, 2);
+    }
+    digits(line, first, 2)
+}
+
 // Four bytes of a line.
 pub struct Four {
     pub first: u8,
@@ -127,7 +159,7 @@ pub enum FourRead {
 // The byte that is the next word from `at` on: one or two digits, or a number.
 fn byte(line: &[u8], at: usize, hexadecimal: bool) -> NumberRead {
     if hexadecimal {
-        return digits(line, at, 2);
+        return one_byte(line, at);
     }
     next_number(line, at, 255)
 }

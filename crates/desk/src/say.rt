@@ -8,6 +8,7 @@ use crate::texts;
 use libc::STDOUT_FILENO;
 use refusal::Refusal;
 use refusal::Written;
+use spelling::glyph;
 
 // How many bytes a page has.
 const PAGE: usize = 4096;
@@ -16,21 +17,27 @@ pub struct Page {
     bytes: [u8; PAGE],
     // How many of them wait to be written out.
     used: usize,
+    // Whether writing out has failed. Nothing is written from then on, so that errno keeps the reason.
+    pub(crate) failed: bool,
 }
 
-pub(crate) fn empty() -> Page {
+pub(crate) fn empty(failed: bool) -> Page {
     Page {
         bytes: [0u8; PAGE],
         used: 0,
+        failed,
     }
 }
 
 // Writes out what waits.
 pub(crate) fn flush(page: Page) -> Page {
+    if page.failed {
+        return empty(true);
+    }
     let used = page.used;
     let bytes = page.bytes;
-    io::write_all(STDOUT_FILENO, start_of(&bytes, used));
-    empty()
+    let done = io::write_all(STDOUT_FILENO, start_of(&bytes, used));
+    empty(!done)
 }
 
 // A page with room for a byte.
@@ -51,7 +58,8 @@ pub fn byte(page: Page, b: u8) -> Page {
     next
 }
 
-fn put(page: Page, bytes: &[u8]) -> Page {
+// Bytes as they stand.
+pub fn put(page: Page, bytes: &[u8]) -> Page {
     let mut p = page;
     let mut i = 0;
     while i < bytes.len() {
@@ -65,12 +73,6 @@ fn decimal(page: Page, number: u64) -> Page {
     let mut digits = [0u8; 20];
     let k = io::decimal(number, &mut digits);
     put(page, &digits[..k])
-}
-
-// A digit's letter, in upper case.
-fn glyph(digit: u8) -> u8 {
-    let d = digit % 16;
-    if d < 10 { 48 + d } else { 55 + d }
 }
 
 fn hex(page: Page, b: u8) -> Page {
@@ -171,9 +173,13 @@ pub fn skipped(page: Page, count: usize) -> Page {
 }
 
 pub fn refused(page: Page, why: Refusal) -> Page {
+    texts::plain(refused_for(page, why), texts::REFUSED_END)
+}
+
+// A refusal through its name. The bracket is still open, for who has more to say in it.
+pub(crate) fn refused_for(page: Page, why: Refusal) -> Page {
     let numbers = two(why.number as u64, why.place as u64);
-    let a = texts::text(page, texts::REFUSED, numbers);
-    texts::plain(names::name(a, why.number), texts::REFUSED_END)
+    names::name(texts::text(page, texts::REFUSED, numbers), why.number)
 }
 
 // What a writer answered, with what stands at the start of its output.

@@ -3,6 +3,8 @@ use crate::fault;
 use crate::fault::EXTRA;
 use crate::fault::Fault;
 use crate::fault::UNKNOWN_COMMAND;
+use crate::heard;
+use crate::heard::Heard;
 use crate::say;
 use crate::say::Page;
 use crate::texts;
@@ -59,12 +61,20 @@ pub struct Desk {
     pub queues: Queues,
     pub relay: Relay,
     pub listening: Listening,
+    // What was fed to it last.
+    pub heard: Heard,
     // What was answered and is not written out yet.
     pub page: Page,
     // How many bytes, or entries of a list, each lent output has.
     pub room: usize,
     // The number of the line that is obeyed, from 1 on.
     pub line: u64,
+    // Whether each command is repeated before its block.
+    pub echo: bool,
+    // Whether a person at a terminal is prompted for each line.
+    pub prompt: bool,
+    // Whether a command has asked for the end.
+    pub over: bool,
 }
 
 fn no_rows() -> Table {
@@ -108,9 +118,13 @@ pub fn new() -> Desk {
         queues: no_events(),
         relay: fresh_relay(0),
         listening: listening::listen(),
-        page: say::empty(),
+        heard: heard::nothing(),
+        page: say::empty(false),
         room: FULL,
         line: 1,
+        echo: false,
+        prompt: false,
+        over: false,
     }
 }
 
@@ -148,6 +162,43 @@ impl Desk {
     pub fn with_listening(mut self, listening: Listening, page: Page) -> Desk {
         self.listening = listening;
         self.page = page;
+        self
+    }
+
+    // The bytes that a command on the listening state left.
+    pub fn with_heard(mut self, heard: Heard) -> Desk {
+        self.heard = heard;
+        self
+    }
+
+    pub fn with_echo(mut self, echo: bool) -> Desk {
+        self.echo = echo;
+        self
+    }
+
+    // A person at a terminal is prompted from now on.
+    pub fn prompting(mut self) -> Desk {
+        self.prompt = true;
+        self
+    }
+
+    // The program is to end.
+    pub fn ended(mut self) -> Desk {
+        self.over = true;
+        self
+    }
+
+    // Nothing more can be written out.
+    pub fn failed(self) -> bool {
+        let page = self.page;
+        page.failed
+    }
+
+    // The line is repeated, where that is asked for.
+    pub fn echoed(self, line: &[u8]) -> Desk {
+        if self.echo {
+            return self.with_page(say::spelled(self.page, texts::ECHO, line));
+        }
         self
     }
 

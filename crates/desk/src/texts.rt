@@ -107,6 +107,36 @@ pub const SKIPPED: u8 = 50;
 
 pub const SKIPPED_BELOW: u8 = 51;
 
+pub const EXPECTED: u8 = 52;
+
+pub const EXPECTED_PAIR: u8 = 53;
+
+pub const FOUND_PAIR: u8 = 54;
+
+pub const ECHO: u8 = 55;
+
+pub const EXPLAINED: u8 = 56;
+
+pub const ROWS_OVER: u8 = 57;
+
+pub const SERIAL_OVER: u8 = 58;
+
+pub const SERIAL_TWICE: u8 = 59;
+
+pub const MARK_WRONG: u8 = 60;
+
+pub const ADDRESS_WRONG: u8 = 61;
+
+pub const ADDRESS_TWICE: u8 = 62;
+
+pub const FLAG_WRONG: u8 = 63;
+
+pub const QUEUED_OVER: u8 = 64;
+
+pub const LAST_OVER: u8 = 65;
+
+pub const SLOT_WRONG: u8 = 66;
+
 pub fn text(page: Page, number: u8, numbers: Numbers) -> Page {
     numbered(
         page,
@@ -132,7 +162,7 @@ pub fn text(page: Page, number: u8, numbers: Numbers) -> Page {
 20 found ^ at $
 21 end
 22 # devices, valid|
-23 # devices, not valid|
+23 # devices, not valid  (
 24 __^ at $ mark #|
 25 __found ^ at $|
 26 answer
@@ -161,6 +191,21 @@ pub fn text(page: Page, number: u8, numbers: Numbers) -> Page {
 49 __$ ^ access #|
 50 , # FF|
 51 __# FF|
+52 : expected $, found $
+53 : expected $ $
+54 , found $ $
+55 >
+56 #_
+57 # rows, 247 at most)|
+58 row #: serial ^, over 0FFFFFFF)|
+59 row #: serial ^, as in row #)|
+60 row #: mark #, neither 0 nor 1)|
+61 row #: address $, not 01 to F7)|
+62 row #: address $, as in row #)|
+63 row #: flag #, neither 0 nor 1)|
+64 row #: # queued, 8 at most)|
+65 row #: last packet #, # queued)|
+66 row #: slot #)|
 ",
         number,
         numbers,

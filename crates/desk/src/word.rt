@@ -76,6 +76,26 @@ pub fn end_of(input: &[u8], from: usize, to: usize) -> usize {
     to
 }
 
+// The line without its comment, which begins with a # behind a blank.
+pub fn uncommented(line: &[u8]) -> &[u8] {
+    part(line, 0, comment_at(line))
+}
+
+// Where the comment of a line begins, or the line's end where there is none.
+fn comment_at(line: &[u8]) -> usize {
+    let mut blank = false;
+    let mut i = 0;
+    while i < line.len() {
+        let b = line[i];
+        if blank && b == b'#' {
+            return i;
+        }
+        blank = is_blank(b);
+        i += 1;
+    }
+    i
+}
+
 pub(crate) fn same(a: &[u8], b: &[u8]) -> bool {
     if a.len() != b.len() {
         return false;

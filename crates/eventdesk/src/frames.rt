@@ -2,6 +2,7 @@
 use crate::polling;
 use crate::polling::RequestRead;
 use crate::showing::say_event;
+use desk::expected::refused_frame;
 use desk::part::lent;
 use desk::say;
 use desk::say::Page;
@@ -19,7 +20,7 @@ pub(crate) fn read_poll(input: &[u8], page: Page) -> Page {
     let read = eventrequests::read_event_request(input);
     match read {
         EventRequestRead::Asked(request) => say_request(request, page),
-        EventRequestRead::Refused(why) => say::refused(page, why),
+        EventRequestRead::Refused(why) => refused_frame(page, why, input),
     }
 }
 
@@ -73,7 +74,7 @@ pub(crate) fn read_events(input: &[u8], page: Page) -> Page {
         EventsRead::Nothing { skipped } => {
             say::skipped(texts::plain(page, texts::NO_EVENTS), skipped)
         }
-        EventsRead::Refused(why) => say::refused(page, why),
+        EventsRead::Refused(why) => refused_frame(page, why, input),
     }
 }
 

@@ -2,7 +2,8 @@
 mod frames;
 mod polling;
 mod queueing;
-mod showing;
+pub mod reasons;
+pub mod showing;
 
 use desk::hex;
 use desk::hex::BytesRead;

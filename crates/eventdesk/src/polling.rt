@@ -1,4 +1,5 @@
 // Polls of the tool's devices. Each call of the library is lent the rows that the table has.
+use desk::expected::refused_frame;
 use desk::fault::Fault;
 use desk::number::FourRead;
 use desk::number::last_four;
@@ -59,7 +60,7 @@ pub(crate) fn ask(asked: Asked, frame: &[u8], d: Desk) -> Desk {
     let after = asking(asked, frame, table, queues, lent(&mut answer, d.room));
     let left = after.queues;
     let polled = after.polled;
-    d.with_queues(left, say_polled(polled, &answer, d.page))
+    d.with_queues(left, say_polled(polled, frame, &answer, d.page))
 }
 
 // What a poll gave, and the queues that it left.
@@ -121,7 +122,7 @@ fn response(
     }
 }
 
-fn say_polled(polled: Polled, answer: &[u8], page: Page) -> Page {
+fn say_polled(polled: Polled, frame: &[u8], answer: &[u8], page: Page) -> Page {
     match polled {
         Polled::Packet {
             skipped,
@@ -134,7 +135,7 @@ fn say_polled(polled: Polled, answer: &[u8], page: Page) -> Page {
             ..
         } => say_answer(skipped, start_of(answer, length), page),
         Polled::Silent => texts::plain(page, texts::SILENCE),
-        Polled::Refused(why) => say::refused(page, why),
+        Polled::Refused(why) => refused_frame(page, why, frame),
     }
 }
 

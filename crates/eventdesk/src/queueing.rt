@@ -12,6 +12,7 @@ use desk::number::NumberRead;
 use desk::number::digits;
 use desk::number::fault_of;
 use desk::number::last_four;
+use desk::number::one_byte;
 use desk::part::column;
 use desk::part::lent;
 use desk::part::serials_of;
@@ -60,7 +61,7 @@ fn urgency(line: &[u8], at: usize) -> NumberRead {
 }
 
 fn read_head(line: &[u8], at: usize) -> HeadRead {
-    let first = digits(line, at, 2);
+    let first = one_byte(line, at);
     let NumberRead::Number(id, second_at) = first else {
         return HeadRead::Wrong(fault_of(first));
     };
@@ -68,7 +69,7 @@ fn read_head(line: &[u8], at: usize) -> HeadRead {
     let NumberRead::Number(urgent, third_at) = second else {
         return HeadRead::Wrong(fault_of(second));
     };
-    let third = digits(line, third_at, 2);
+    let third = one_byte(line, third_at);
     let NumberRead::Number(kind, fourth_at) = third else {
         return HeadRead::Wrong(fault_of(third));
     };

@@ -1,4 +1,5 @@
 // The queues of the devices, and events, shown.
+use crate::reasons;
 use desk::part::column;
 use desk::part::serials_of;
 use desk::part::slots_at;
@@ -21,13 +22,18 @@ pub(crate) fn show(d: Desk) -> Desk {
     let table = d.table;
     let rows = table.rows;
     let queues = d.queues;
-    let head = if valid(table, queues) {
-        texts::VALID
-    } else {
-        texts::NOT_VALID
-    };
-    let page = texts::text(d.page, head, one(rows as u64));
-    d.with_page(say_queues(rows, table, queues, page))
+    let head = say_valid(valid(table, queues), reasons::OF_QUEUES, d);
+    d.with_page(say_queues(rows, table, queues, head))
+}
+
+// Whether the devices are valid, and if not, why: the first of so many rules that fails.
+pub fn say_valid(valid: bool, rules: u8, d: Desk) -> Page {
+    let rows = d.table.rows;
+    if valid {
+        return texts::text(d.page, texts::VALID, one(rows as u64));
+    }
+    let head = texts::text(d.page, texts::NOT_VALID, one(rows as u64));
+    reasons::say(rules, d.table, d.queues, head)
 }
 
 // Whether table and queues are valid.

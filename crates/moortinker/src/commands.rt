@@ -5,6 +5,9 @@ use crate::ebus_commands;
 use crate::help;
 use crate::listening_commands;
 use crate::modbus_commands;
+use desk::explain::explain;
+use desk::fault::MISSING;
+use desk::fault::NOT_SWITCH;
 use desk::hex;
 use desk::hex::BytesRead;
 use desk::number::NumberRead;
@@ -28,7 +31,11 @@ pub(crate) fn answer(line: &[u8], d: Desk) -> Desk {
     if name[0] == b'#' {
         return d;
     }
-    by_name(name, line, at, d)
+    let e = d.echoed(line);
+    if raildesk::takes_text(name) {
+        return raildesk::by_name(name, line, at, e);
+    }
+    by_name(name, word::uncommented(line), at, e)
 }
 
 // The names of the commands on the bytes that the rest of the line is, of those that take no word,
@@ -37,17 +44,17 @@ pub(crate) fn answer(line: &[u8], d: Desk) -> Desk {
 fn by_name(name: &[u8], line: &[u8], at: usize, d: Desk) -> Desk {
     let command = word::place(
         b"ebus-check expand undo judge write-reply modbus-check read-request read-answer feed
-write-end forget table start continue listen close help
-kind write-command write-request write-found device offer scan room",
+write-end forget table start continue listen close quit exit help ?
+kind write-command write-request write-found device offer scan room echo explain",
         name,
     );
     if command < 9 {
         return on_bytes(command, line, at, d);
     }
-    if command < 17 {
+    if command < 20 {
         return alone(command, line, at, d);
     }
-    if command < 25 {
+    if command < 30 {
         return with_words(command, line, at, d);
     }
     if eventdesk::knows(name) {
@@ -97,22 +104,25 @@ fn alone(command: usize, line: &[u8], at: usize, d: Desk) -> Desk {
         11 => device_commands::show(d),
         12 => device_commands::request(Asked::Start, d),
         13 => device_commands::request(Asked::Continue, d),
-        14 => d.with_listening(listening::listen(), d.page).ok(),
+        14 => listening_commands::listen(d),
         15 => listening_commands::close(d),
+        16 | 17 => d.ended(),
         _ => d.with_page(help::commands(d.page)),
     }
 }
 
 fn with_words(command: usize, line: &[u8], at: usize, d: Desk) -> Desk {
     match command {
-        17 => ebus_commands::kind(line, at, d),
-        18 => ebus_commands::write_command(line, at, d),
-        19 => modbus_commands::write_request(line, at, d),
-        20 => modbus_commands::write_found(line, at, d),
-        21 => device_commands::device(line, at, d),
-        22 => device_commands::offer(line, at, d),
-        23 => device_commands::scan(line, at, d),
-        _ => room(line, at, d),
+        20 => ebus_commands::kind(line, at, d),
+        21 => ebus_commands::write_command(line, at, d),
+        22 => modbus_commands::write_request(line, at, d),
+        23 => modbus_commands::write_found(line, at, d),
+        24 => device_commands::device(line, at, d),
+        25 => device_commands::offer(line, at, d),
+        26 => device_commands::scan(line, at, d),
+        27 => room(line, at, d),
+        28 => echo(line, at, d),
+        _ => explain(line, at, d),
     }
 }
 
@@ -126,4 +136,21 @@ fn room(line: &[u8], at: usize, d: Desk) -> Desk {
         NumberRead::Wrong(why) => d.wrong(why),
         NumberRead::Number(n, _) => d.with_room(n as usize).ok(),
     }
+}
+
+// `echo on` repeats each command from the next line on, `echo off` no more.
+fn echo(line: &[u8], at: usize, d: Desk) -> Desk {
+    let w = word::next(line, at);
+    let name = word::part(line, w.from, w.to);
+    if name.len() == 0 {
+        return d.wrong_at(MISSING, w.from);
+    }
+    if word::more(line, w.to) {
+        return d.extra(line, w.to);
+    }
+    let switch = word::place(b"off on", name);
+    if 1 < switch {
+        return d.wrong_at(NOT_SWITCH, w.from);
+    }
+    d.with_echo(switch == 1).ok()
 }

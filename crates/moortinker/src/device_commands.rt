@@ -1,5 +1,6 @@
 // The tool's table, and the devices' side of a scan over it. Each call of the library is lent the
 // rows that the table has.
+use desk::expected::refused_frame;
 use desk::fault::Fault;
 use desk::fault::TABLE_FULL;
 use desk::hex;
@@ -8,6 +9,7 @@ use desk::number::NumberRead;
 use desk::number::digits;
 use desk::number::fault_of;
 use desk::number::last_number;
+use desk::number::one_byte;
 use desk::part::column;
 use desk::part::lent;
 use desk::part::lent_serials;
@@ -27,6 +29,8 @@ use desk::state::Table;
 use desk::texts;
 use devices::Response;
 use devices::Scanned;
+use eventdesk::reasons::OF_TABLE;
+use eventdesk::showing::say_valid;
 
 // A mark of any byte can be tried.
 const MOST_MARK: u64 = 255;
@@ -44,7 +48,7 @@ fn read_row(line: &[u8], at: usize) -> RowRead {
     let NumberRead::Number(serial, second_at) = first else {
         return RowRead::Wrong(fault_of(first));
     };
-    let second = digits(line, second_at, 2);
+    let second = one_byte(line, second_at);
     let NumberRead::Number(address, third_at) = second else {
         return RowRead::Wrong(fault_of(second));
     };
@@ -99,17 +103,8 @@ pub(crate) fn show(d: Desk) -> Desk {
     let s = serials_of(&serials, rows);
     let a = column(&addresses, rows);
     let m = column(&marks, rows);
-    let head = valid_text(table::valid(s, a, m));
-    let page = texts::text(d.page, head, one(rows as u64));
-    d.with_page(say_rows(rows, s, a, m, page))
-}
-
-fn valid_text(valid: bool) -> u8 {
-    if valid {
-        texts::VALID
-    } else {
-        texts::NOT_VALID
-    }
+    let head = say_valid(table::valid(s, a, m), OF_TABLE, d);
+    d.with_page(say_rows(rows, s, a, m, head))
 }
 
 // The first n rows.
@@ -176,7 +171,7 @@ fn ask(asked: Asked, frame: &[u8], d: Desk) -> Desk {
         lent(&mut marks, table.rows),
         lent(&mut answer, d.room),
     );
-    let page = say_answer(a, &answer, d.page);
+    let page = say_answer(a, frame, &answer, d.page);
     d.with_table(table.with_marks(marks)).with_page(page)
 }
 
@@ -208,11 +203,11 @@ fn response(
     }
 }
 
-fn say_answer(a: Response, answer: &[u8], page: Page) -> Page {
+fn say_answer(a: Response, frame: &[u8], answer: &[u8], page: Page) -> Page {
     match a {
         Response::Answered(n) => say::named(page, texts::ANSWER, start_of(answer, n)),
         Response::Silent => texts::plain(page, texts::SILENCE),
-        Response::Refused(why) => say::refused(page, why),
+        Response::Refused(why) => refused_frame(page, why, frame),
     }
 }
 

@@ -1,12 +1,13 @@
 // The commands of eBUS. Each is one call of the library.
 use addresses::ExchangeKind;
+use desk::expected::refused_run;
 use desk::hex;
 use desk::hex::BytesRead;
 use desk::number::Four;
 use desk::number::FourRead;
 use desk::number::NumberRead;
-use desk::number::digits;
 use desk::number::four_bytes;
+use desk::number::one_byte;
 use desk::part::lent;
 use desk::part::start_of;
 use desk::say;
@@ -44,7 +45,7 @@ pub(crate) fn write_reply(input: &[u8], room: usize, page: Page) -> Page {
 }
 
 pub(crate) fn kind(line: &[u8], at: usize, d: Desk) -> Desk {
-    let read = digits(line, at, 2);
+    let read = one_byte(line, at);
     match read {
         NumberRead::Wrong(why) => d.wrong(why),
         NumberRead::Number(destination, next) => {
@@ -80,6 +81,8 @@ pub(crate) fn judge(run: &[u8], room: usize, page: Page) -> Page {
     );
     say_judged(
         judged,
+        run,
+        0,
         start_of(&command, room),
         start_of(&first, room),
         start_of(&second, room),
@@ -87,15 +90,18 @@ pub(crate) fn judge(run: &[u8], room: usize, page: Page) -> Page {
     )
 }
 
+// `before` bytes were heard before those of the run.
 pub(crate) fn say_judged<'a>(
     judged: Judged,
+    run: &'a [u8],
+    before: usize,
     command: &'a [u8],
     first: &'a [u8],
     second: &'a [u8],
     page: Page,
 ) -> Page {
     match judged {
-        Judged::Refused(why) => say::refused(page, why),
+        Judged::Refused(why) => refused_run(page, why, run, before),
         Judged::Accepted(kind, commands, replies, bytes) => {
             let a = texts::plain(page, texts::ACCEPTED);
             let b = texts::plain(a, kind_text(kind));

@@ -1,23 +1,46 @@
-// What the commands are.
+// What the commands are, and how the program is started.
 use desk::say;
 use desk::say::Page;
-use desk::say::no_number;
 
 // One line on what this is, for a person at a terminal.
 pub(crate) fn greet(page: Page) -> Page {
-    let a = say::filled(
+    let a = say::put(
         page,
-        b"Moortinker: one command a line, answered by the proved library.|",
-        no_number(),
+        b"Moortinker: one command a line, answered by the proved library.\n",
+    );
+    commands(a)
+}
+
+// How the program is started, and then the commands.
+pub(crate) fn usage(page: Page) -> Page {
+    let a = say::put(
+        page,
+        b"usage
+  moortinker            obey the commands on standard input, one a line
+  moortinker capture FILE [--refused] [--summary]
+                        report a capture; FILE - is standard input
+  moortinker --help     say this (or: -h, help)
+",
     );
     commands(a)
 }
 
 pub(crate) fn commands(page: Page) -> Page {
-    say::filled(
+    say::put(
         page,
         b"commands
-  help                  what the commands are
+  HEX                   any number of bytes, two hex digits each; blanks, or one : or ,
+                        between bytes and 0x before them are taken
+  BYTE                  one or two hex digits, 0x before them or not
+  WORD, SERIAL          one to four hex digits, one to eight
+  NUM                   a decimal number, or a hexadecimal one with 0x
+  TEXT                  the rest of the line as it stands
+  # ...                 a comment: a line of its own, or behind a blank at the end of
+                        a command that takes no TEXT
+  help, ?               what the commands are
+  quit, exit            end the program
+  echo on               repeat each command before its answer (or: off)
+  explain NUM           what the number of a refusal means, and where its place points
   room NUM              lend outputs of NUM bytes or entries, 0 to 8192
   room                  lend outputs of full size again
   ebus-check HEX        check byte of logical bytes
@@ -72,6 +95,5 @@ pub(crate) fn commands(page: Page) -> Page {
   finish                the write that runs has finished
   registers             show the remembered write and the registers
 ",
-        no_number(),
     )
 }

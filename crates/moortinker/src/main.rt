@@ -9,12 +9,14 @@ mod listening_commands;
 mod modbus_commands;
 
 use desk::fault::LINE_TOO_LONG;
+use desk::part::start_of;
+use desk::say;
 use desk::state;
 use desk::state::Desk;
 use desk::word;
 use line::Window;
 
-// What the loop over lines carries. `over` says that the input has ended.
+// What the loop over lines carries. `over` says that there is no more to do.
 struct State {
     window: Window,
     desk: Desk,
@@ -22,16 +24,54 @@ struct State {
 }
 
 fn main() {
-    let mut input = io::large_buffer();
-    session(&mut input);
+    if os::arg_count() < 2 {
+        let mut input = io::large_buffer();
+        session(&mut input);
+        return;
+    }
+    let mut first = io::buffer();
+    let n = os::arg(1, &mut first);
+    started_with(start_of(&first, n));
 }
 
-// A person at a terminal is told what the commands are.
+// What the program was started with says what it does.
+fn started_with(argument: &[u8]) {
+    let asked = word::place(b"capture --help -h help", argument);
+    match asked {
+        0 => capturedesk::from_arguments(),
+        1..=3 => usage(),
+        _ => not_taken(argument),
+    }
+}
+
+fn usage() {
+    let d = state::new();
+    finish(d.with_page(help::usage(d.page)));
+}
+
+// Another argument is named, on standard error.
+fn not_taken(argument: &[u8]) {
+    io::write_all(libc::STDERR_FILENO, b"moortinker: no such argument: ");
+    io::write_all(libc::STDERR_FILENO, argument);
+    io::write_all(
+        libc::STDERR_FILENO,
+        b"; moortinker --help says what it takes\n",
+    );
+}
+
+// A person at a terminal is told what the commands are, and prompted.
 fn greeted(d: Desk) -> Desk {
     if libc::isatty(libc::STDIN_FILENO) == 1 {
-        return d.with_page(help::greet(d.page));
+        return d.with_page(help::greet(d.page)).prompting();
     }
     d
+}
+
+// What waits is written out. Where that fails, or has failed, the reason is said on standard error.
+fn finish(d: Desk) {
+    if d.written_out().failed() {
+        os::fail(b"moortinker: cannot write");
+    }
 }
 
 // A proved loop has to end, and nothing says that the input does. So the loop counts its turns
@@ -47,6 +87,7 @@ fn session(input: &mut [u8]) {
         turns -= 1;
         s = turn(s, input);
         if s.over {
+            finish(s.desk);
             return;
         }
     }
@@ -62,7 +103,7 @@ fn turn(s: State, input: &mut [u8]) -> State {
         return State {
             window: window.past(end),
             desk: desk.past_line(),
-            over: false,
+            over: desk.over || desk.failed(),
         };
     }
     let next = more(s, input);
@@ -76,7 +117,14 @@ fn turn(s: State, input: &mut [u8]) -> State {
 // first, so that a person at a terminal sees it before the tool waits.
 fn more(s: State, input: &mut [u8]) -> State {
     let window = s.window;
-    let desk = s.desk.written_out();
+    let desk = prompted(window, s.desk).written_out();
+    if desk.failed() {
+        return State {
+            window: line::new(),
+            desk,
+            over: true,
+        };
+    }
     let from = if window.skipping {
         window.to
     } else {
@@ -98,13 +146,35 @@ fn more(s: State, input: &mut [u8]) -> State {
     }
 }
 
+// A person is prompted where a line begins.
+fn prompted(window: Window, d: Desk) -> Desk {
+    if window.skipping {
+        return d;
+    }
+    if window.from < window.to {
+        return d;
+    }
+    if d.prompt {
+        return d.with_page(say::put(d.page, b"> "));
+    }
+    d
+}
+
+// The prompt that was not followed by a line is ended.
+fn unprompted(d: Desk) -> Desk {
+    if d.prompt {
+        return d.with_page(say::byte(d.page, b'\n'));
+    }
+    d
+}
+
 // The input has ended: what is left is a line without its newline.
 fn last(s: State, input: &[u8]) -> State {
     let window = s.window;
     let desk = obey(window, window.to, s.desk, input);
     State {
         window,
-        desk: desk.written_out(),
+        desk: unprompted(desk),
         over: true,
     }
 }

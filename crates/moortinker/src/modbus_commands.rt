@@ -1,10 +1,12 @@
 // The commands of Fast Modbus frames. Each is one call of the library.
 use answers::AnswerRead;
+use desk::expected::refused_frame;
 use desk::fault::MISSING;
 use desk::fault::NOT_REQUEST;
 use desk::number::NumberRead;
 use desk::number::digits;
 use desk::number::fault_of;
+use desk::number::one_byte;
 use desk::part::lent;
 use desk::say;
 use desk::say::Page;
@@ -27,7 +29,7 @@ pub(crate) fn read_request(input: &[u8], page: Page) -> Page {
     let read = requests::read_request(input);
     match read {
         RequestRead::Asked(request) => say_request(request, page),
-        RequestRead::Refused(why) => say::refused(page, why),
+        RequestRead::Refused(why) => refused_frame(page, why, input),
     }
 }
 
@@ -50,7 +52,7 @@ pub(crate) fn read_answer(input: &[u8], page: Page) -> Page {
             say::skipped(found, skipped)
         }
         AnswerRead::End { skipped } => say::skipped(texts::plain(page, texts::END), skipped),
-        AnswerRead::Refused(why) => say::refused(page, why),
+        AnswerRead::Refused(why) => refused_frame(page, why, input),
     }
 }
 
@@ -82,7 +84,7 @@ pub(crate) fn write_found(line: &[u8], at: usize, d: Desk) -> Desk {
     let NumberRead::Number(serial, next) = first else {
         return d.wrong(fault_of(first));
     };
-    let second = digits(line, next, 2);
+    let second = one_byte(line, next);
     let NumberRead::Number(address, end) = second else {
         return d.wrong(fault_of(second));
     };

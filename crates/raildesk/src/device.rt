@@ -1,9 +1,11 @@
 // The tool's relay device: set as it stands, offered packets, told that its write has finished, and
 // shown.
+use desk::expected::refused_packet;
 use desk::number::NumberRead;
 use desk::number::digits;
 use desk::number::fault_of;
 use desk::number::last_number;
+use desk::number::one_byte;
 use desk::part::lent;
 use desk::part::start_of;
 use desk::say;
@@ -26,7 +28,7 @@ const MOST_ACCESS: u64 = 255;
 // ---- the device as it stands
 
 pub(crate) fn relay(line: &[u8], at: usize, d: Desk) -> Desk {
-    let read = digits(line, at, 2);
+    let read = one_byte(line, at);
     match read {
         NumberRead::Wrong(why) => d.wrong(why),
         NumberRead::Number(address, next) => {
@@ -41,7 +43,7 @@ pub(crate) fn relay(line: &[u8], at: usize, d: Desk) -> Desk {
 
 // The remembered write stays.
 pub(crate) fn register(line: &[u8], at: usize, d: Desk) -> Desk {
-    let first = digits(line, at, 2);
+    let first = one_byte(line, at);
     let NumberRead::Number(register, second_at) = first else {
         return d.wrong(fault_of(first));
     };
@@ -69,7 +71,7 @@ pub(crate) fn call(finishing: bool, packet: &[u8], d: Desk) -> Desk {
     let after = called(finishing, packet, device, lent(&mut answer, d.room));
     let left = after.device;
     let reply = after.reply;
-    d.with_relay(left, say_reply(reply, &answer, d.page))
+    d.with_relay(left, say_reply(reply, packet, &answer, d.page))
 }
 
 // What a call gave, and the device that it left.
@@ -99,11 +101,11 @@ fn called(finishing: bool, packet: &[u8], device: Relay, answer: &mut [u8]) -> A
     After { device, reply }
 }
 
-fn say_reply(reply: Reply, answer: &[u8], page: Page) -> Page {
+fn say_reply(reply: Reply, packet: &[u8], answer: &[u8], page: Page) -> Page {
     match reply {
         Reply::Answer(n) => say::spelled(page, texts::ANSWER, start_of(answer, n)),
         Reply::NoAnswer => texts::plain(page, texts::NO_ANSWER),
-        Reply::Refused(why) => say::refused(page, why),
+        Reply::Refused(why) => refused_packet(page, why, packet),
     }
 }
 

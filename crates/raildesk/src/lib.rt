@@ -25,6 +25,11 @@ pub fn knows(name: &[u8]) -> bool {
     number_of(name) < 9
 }
 
+// Whether it takes the rest of its line as it stands.
+pub fn takes_text(name: &[u8]) -> bool {
+    number_of(name) < 2
+}
+
 pub fn by_name(name: &[u8], line: &[u8], at: usize, d: Desk) -> Desk {
     let command = number_of(name);
     if command < 2 {

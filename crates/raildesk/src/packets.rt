@@ -1,10 +1,12 @@
 // Railbus packets, read and written.
+use desk::expected::refused_packet;
 use desk::fault::MISSING;
 use desk::fault::NOT_LETTER;
 use desk::fault::fault_at;
 use desk::number::NumberRead;
 use desk::number::digits;
 use desk::number::fault_of;
+use desk::number::one_byte;
 use desk::part::lent;
 use desk::part::start_of;
 use desk::say;
@@ -25,7 +27,7 @@ pub(crate) fn read(input: &[u8], page: Page) -> Page {
     let read = railbus::read_packet(input);
     match read {
         PacketRead::Found(packet, examined) => say_packet(packet, examined, page),
-        PacketRead::Refused(why) => say::refused(page, why),
+        PacketRead::Refused(why) => refused_packet(page, why, input),
     }
 }
 
@@ -78,11 +80,11 @@ pub(crate) fn write(line: &[u8], at: usize, d: Desk) -> Desk {
     let NumberRead::Number(letter, second_at) = first else {
         return d.wrong(fault_of(first));
     };
-    let second = digits(line, second_at, 2);
+    let second = one_byte(line, second_at);
     let NumberRead::Number(address, third_at) = second else {
         return d.wrong(fault_of(second));
     };
-    let third = digits(line, third_at, 2);
+    let third = one_byte(line, third_at);
     let NumberRead::Number(register, fourth_at) = third else {
         return d.wrong(fault_of(third));
     };

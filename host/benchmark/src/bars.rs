@@ -4,12 +4,14 @@
 use crate::case::SECOND;
 use crate::checks::{C, C_TWO, C_TWO_WIDE, C_WIDE, EBUS, FRAMES, MODBUS, ONE_BYTE, ROWS_FROM};
 use crate::contest::CONTEST;
+use crate::day::DAY;
 use crate::feed::FEED_64;
 use crate::judge::JUDGE;
 use crate::poll::POLL;
 use crate::report::{Measured, Ratio};
 use crate::scan::{MOST, SCAN};
 use crate::table::{START, VALID};
+use crate::walk::{WALK, WALK_64};
 
 /// One bar: what it is on, what must be reached, and what was.
 pub struct Bar {
@@ -66,6 +68,7 @@ fn on_ratio(ratio: &Ratio) -> Option<Bar> {
         (JUDGE, SECOND, _) => 1.0,
         // Listening takes at most one and a half times as long as judging.
         (FEED_64, JUDGE, _) => 0.667,
+        (WALK | WALK_64, SECOND, DAY) => 1.0,
         (SCAN | POLL, SECOND, MOST) => 1.0,
         (SCAN, "bus", MOST) => 200.0,
         _ => return None,

@@ -1,7 +1,7 @@
 //! All cases, and how one is made from its name and size.
 
 use crate::case::Case;
-use crate::{checks, contest, exchanges, feed, idle, judge, poll, railbus, scan, table};
+use crate::{checks, contest, day, exchanges, feed, idle, judge, poll, railbus, scan, table, walk};
 
 /// Numbers of keys and of devices.
 const NUMBERS: [usize; 4] = [1, 16, 64, scan::MOST];
@@ -9,13 +9,16 @@ const NUMBERS: [usize; 4] = [1, 16, 64, scan::MOST];
 /// Sizes of exchanges.
 const EXCHANGES: [usize; 2] = [exchanges::LONG, exchanges::SHORT];
 
+/// Lengths of captures.
+const CAPTURES: [usize; 2] = [day::PART, day::DAY];
+
 /// Lengths of frames, those around the first that goes by the rows among them.
 const FRAMES: [usize; 20] = [
     5, 7, 9, 13, 17, 21, 25, 29, 33, 35, 36, 37, 45, 61, 85, 101, 133, 165, 205, 255,
 ];
 
 /// Every case with its sizes, in the order in which they are measured.
-pub const ALL: [(&str, &[usize]); 15] = [
+pub const ALL: [(&str, &[usize]); 17] = [
     (checks::MODBUS, &[8, 64, 256, 4096]),
     (checks::FRAMES, &FRAMES),
     (checks::EBUS, &[8, 20, 64, 256]),
@@ -23,6 +26,8 @@ pub const ALL: [(&str, &[usize]); 15] = [
     (feed::FEED_64, &EXCHANGES),
     (feed::FEED_1, &EXCHANGES),
     (idle::IDLE, &[64, 4096, idle::SYNS]),
+    (walk::WALK, &CAPTURES),
+    (walk::WALK_64, &CAPTURES),
     (contest::CONTEST, &NUMBERS),
     (table::VALID, &NUMBERS),
     (table::START, &NUMBERS),
@@ -32,6 +37,12 @@ pub const ALL: [(&str, &[usize]); 15] = [
     (railbus::WRITE, &[railbus::LONG]),
     (railbus::OFFER, &[railbus::LONG]),
 ];
+
+/// Whether the instructions of a case are counted. Those of a whole day would
+/// take callgrind many minutes, and each byte takes as many as one of its part.
+pub fn counted(name: &str, size: usize) -> bool {
+    !(matches!(name, walk::WALK | walk::WALK_64) && size == day::DAY)
+}
 
 /// Makes the inputs and compares the candidates' answers on them; an error is
 /// a difference.
@@ -44,6 +55,8 @@ pub fn make(name: &str, size: usize) -> Result<Case, String> {
         feed::FEED_64 => feed::feed_64(size),
         feed::FEED_1 => feed::feed_1(size),
         idle::IDLE => idle::idle(size),
+        walk::WALK => walk::walk(size),
+        walk::WALK_64 => walk::walk_64(size),
         contest::CONTEST => contest::contest(size),
         table::VALID => table::valid(size),
         table::START => table::start(size),

@@ -13,9 +13,9 @@ pub const SHORT: usize = 13;
 
 const INITIATORS: [u8; 5] = [0x10, 0x03, 0x31, 0x71, 0xFF];
 const TARGETS: [u8; 6] = [0x08, 0x15, 0x26, 0x50, 0x52, 0x76];
-const ACK: u8 = 0x00;
-const NACK: u8 = 0xFF;
-const SYN: u8 = 0xAA;
+pub const ACK: u8 = 0x00;
+pub const NACK: u8 = 0xFF;
+pub const SYN: u8 = 0xAA;
 
 /// The exchanges of a size: long or short ones.
 pub fn of(size: usize) -> Result<Vec<Vec<u8>>, String> {
@@ -76,9 +76,7 @@ pub fn describe(size: usize) -> Result<String, String> {
 }
 
 fn command(random: &mut Random, length: usize, flaw: u8, run: &mut Vec<u8>) {
-    let source = INITIATORS[random.below(INITIATORS.len())];
-    let destination = TARGETS[random.below(TARGETS.len())];
-    let mut logical = vec![source, destination];
+    let mut logical = vec![initiator(random), target(random)];
     logical.extend(data(random, 2, length));
     logical.push(length as u8);
     logical.extend(data(random, length, length));
@@ -102,8 +100,16 @@ fn data(random: &mut Random, count: usize, length: usize) -> Vec<u8> {
     bytes
 }
 
+pub fn initiator(random: &mut Random) -> u8 {
+    INITIATORS[random.below(INITIATORS.len())]
+}
+
+pub fn target(random: &mut Random) -> u8 {
+    TARGETS[random.below(TARGETS.len())]
+}
+
 /// Puts the telegram on the wire with its check byte, wrong if there is a flaw.
-fn send(logical: &mut Vec<u8>, flaw: u8, run: &mut Vec<u8>) {
+pub fn send(logical: &mut Vec<u8>, flaw: u8, run: &mut Vec<u8>) {
     logical.push(ebus_check(logical) ^ flaw);
     for &byte in logical.iter() {
         match byte {

@@ -50,7 +50,7 @@ pub fn feed_in_runs<const LENGTH: usize>(exchange: &[u8], buffers: &mut Buffers)
     close(state, buffers)
 }
 
-fn close(state: sys::Listening, buffers: &mut Buffers) -> sys::Judged {
+pub fn close(state: sys::Listening, buffers: &mut Buffers) -> sys::Judged {
     let Buffers {
         command,
         reply_1,

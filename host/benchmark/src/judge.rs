@@ -118,7 +118,7 @@ fn compare(
     for run in runs {
         let answer = ours(run, &mut own);
         let other_answer = theirs(run, &mut other);
-        if other_answer != Ok(plain(&answer)?) || own != other {
+        if other_answer.is_err() || other_answer != plain(answer)? || own != other {
             let end = &run[run.len().saturating_sub(200)..];
             return Err(format!(
                 "{name} of {end:02X?}: {OURS} {answer:?} {own:?}, {SECOND} {other_answer:?} {other:?}"
@@ -128,19 +128,20 @@ fn compare(
     Ok(())
 }
 
-/// An accepted answer in the second implementation's words.
-fn plain(answer: &sys::Judged) -> Result<exchange::Judged, String> {
+/// An answer in the second implementation's words.
+pub fn plain(answer: sys::Judged) -> Result<Answer, String> {
     use second::ebus::Kind;
     let kind = match (answer.number, answer.kind) {
         (sys::MOOR_ACCEPTED, sys::MOOR_BROADCAST) => Kind::Broadcast,
         (sys::MOOR_ACCEPTED, sys::MOOR_INITIATOR_INITIATOR) => Kind::InitiatorInitiator,
         (sys::MOOR_ACCEPTED, sys::MOOR_INITIATOR_TARGET) => Kind::InitiatorTarget,
-        _ => return Err(format!("judge: {OURS} gives {answer:?}")),
+        (sys::MOOR_ACCEPTED, _) => return Err(format!("judge: {OURS} gives {answer:?}")),
+        (number, _) => return Ok(Err(Refusal::at(number, answer.place))),
     };
-    Ok(exchange::Judged {
+    Ok(Ok(exchange::Judged {
         kind,
         command_attempts: answer.command_attempts,
         reply_attempts: answer.reply_attempts,
         read: answer.read,
-    })
+    }))
 }

@@ -10,10 +10,12 @@ mod cases;
 mod checks;
 mod contest;
 mod count;
+mod day;
 mod exchanges;
 mod feed;
 mod idle;
 mod judge;
+mod line;
 mod machine;
 mod measure;
 mod peers;
@@ -23,6 +25,7 @@ mod random;
 mod report;
 mod scan;
 mod table;
+mod walk;
 
 use std::env;
 use std::process::ExitCode;
@@ -96,7 +99,9 @@ fn measure_all(names: &[&str]) -> Result<Vec<Measured>, String> {
         for &size in sizes {
             let (measured, candidates) = time_case(name, size)?;
             all.push(measured);
-            alone.extend(candidates);
+            if cases::counted(name, size) {
+                alone.extend(candidates);
+            }
         }
     }
     match count::instructions(&alone) {
@@ -108,8 +113,12 @@ fn measure_all(names: &[&str]) -> Result<Vec<Measured>, String> {
 
 /// Times a case, and names its candidates for the counting.
 fn time_case(name: &str, size: usize) -> Result<(Measured, Vec<Alone>), String> {
-    if matches!(name, judge::JUDGE | feed::FEED_64 | feed::FEED_1) {
-        println!("{name} {size}: {}", exchanges::describe(size)?);
+    match name {
+        judge::JUDGE | feed::FEED_64 | feed::FEED_1 => {
+            println!("{name} {size}: {}", exchanges::describe(size)?);
+        }
+        walk::WALK => println!("{name} {size}: {}", day::describe(size)),
+        _ => {}
     }
     let mut case = cases::make(name, size)?;
     let timings = measure::interleave(&mut case);
@@ -131,10 +140,12 @@ fn time_case(name: &str, size: usize) -> Result<(Measured, Vec<Alone>), String> 
     Ok((measured, alone))
 }
 
-/// Gives each case the counts of its candidates; they stand in the same order.
+/// Gives each case that was counted the counts of its candidates; they stand in
+/// the same order.
 fn share_out(counts: Vec<f64>, all: &mut [Measured]) {
     let mut counts = counts.into_iter();
-    for measured in all {
+    let counted = |one: &&mut Measured| cases::counted(one.case, one.size);
+    for measured in all.iter_mut().filter(counted) {
         let own = counts.by_ref().take(measured.timings.len());
         measured.counts = Some(own.collect());
     }
@@ -143,7 +154,8 @@ fn share_out(counts: Vec<f64>, all: &mut [Measured]) {
 fn print_notes() {
     println!("Answers were compared before each timing, on the same input. The buffers of judge");
     println!("and listener and the scan's lists are not cleared between calls, neither ours nor");
-    println!("theirs.");
+    println!("theirs. A call of walk and walk-64 goes over a whole capture; instructions of the");
+    println!("longer one are not counted.");
     println!(
         "The bus takes {:.3} s for a scan of {} devices: {} requests of {} bits at {} baud.",
         scan::bus_time(scan::MOST) / 1e9,

@@ -7,6 +7,7 @@ use crate::idle::{IDLE, SYNS};
 use crate::measure::{Timing, ROUNDS};
 use crate::poll::POLL;
 use crate::scan;
+use crate::walk::{WALK, WALK_64};
 
 /// One case at one size, with the archive first.
 pub struct Measured {
@@ -82,14 +83,14 @@ pub fn print_table(all: &[Measured]) {
     }
     println!();
     println!(
-        "{:<13}{:>7}  {:<10}{:>14}{:>9}{last}",
+        "{:<13}{:>8}  {:<10}{:>14}{:>9}{last}",
         "case", "size", "candidate", "ns per call", "spread"
     );
     for one in all {
         for (at, timing) in one.timings.iter().enumerate() {
             let count = one.count(at).map(|count| format!("{count:>14.1}"));
             println!(
-                "{:<13}{:>7}  {:<10}{:>14.1}{:>8.1}%{}",
+                "{:<13}{:>8}  {:<10}{:>14.1}{:>8.1}%{}",
                 one.case,
                 one.size,
                 timing.name,
@@ -118,24 +119,28 @@ pub fn print_ratios(ratios: &[Ratio]) {
     }
 }
 
-/// How a contest grows with the keys, judging with idle time, and a poll with
-/// the devices.
+/// How a contest grows with the keys, judging with idle time, a poll with the
+/// devices, and a walk with the bytes of the capture, whose speed stands there
+/// too.
 pub fn print_growth(all: &[Measured]) {
     for one in all {
         let (each, number) = match one.case {
             CONTEST => ("key", one.size as f64),
             IDLE => ("syn", SYNS as f64),
             POLL => ("device", one.size as f64),
+            WALK | WALK_64 => ("byte", one.size as f64),
             _ => continue,
         };
         for (at, timing) in one.timings.iter().enumerate() {
+            let time = timing.median() / number;
+            let speed = (each == "byte").then(|| format!(", {:.0} MB/s", 1e3 / time));
             let count = one.count(at).map(|count| count / number);
             println!(
-                "per-{each} {} {} {} {:.2} ns{}",
+                "per-{each} {} {} {} {time:.2} ns{}{}",
                 one.case,
                 one.size,
                 timing.name,
-                timing.median() / number,
+                speed.unwrap_or_default(),
                 count.map_or(String::new(), |count| format!(", {count:.1} instructions"))
             );
         }

@@ -3,10 +3,11 @@
 //! crate, input by input, and is measured beside it. There is one function here
 //! for each function of `moortinker.h`, over slices, with `Result<_, Refusal>`
 //! for the answer. A [`Listener`] judges an exchange whose bytes arrive one by
-//! one.
+//! one; [`capture`] tells what a capture of many exchanges holds.
 
 #![forbid(unsafe_code)]
 
+pub mod capture;
 pub mod checks;
 pub mod devices;
 pub mod ebus;

@@ -152,7 +152,8 @@ pub fn reply_data<'a>(reply_1: &'a [u8], reply_2: &'a [u8], attempt: u8) -> &'a 
     &buffer[part.start..][..part.length]
 }
 
-/// An accepted exchange with its bytes. [`judge`] gives it, and so does
+/// An accepted exchange with its bytes. [`judge`] gives it, and so do
+/// [`exchanges`](super::exchanges) and
 /// [`Listener::close`](super::Listener::close).
 ///
 /// The command is NACKed once and comes again:
@@ -169,6 +170,9 @@ pub fn reply_data<'a>(reply_1: &'a [u8], reply_2: &'a [u8], attempt: u8) -> &'a 
 /// assert_eq!(exchange.kind(), Kind::InitiatorTarget);
 /// assert_eq!(exchange.command_attempts(), 2);
 /// assert_eq!(exchange.command(), [0x10, 0x08, 0xB5, 0x11, 0x01, 0x01, 0x89]);
+/// assert_eq!((exchange.source(), exchange.destination()), (0x10, 0x08));
+/// assert_eq!(exchange.service(), (0xB5, 0x11));
+/// assert_eq!(exchange.command_data(), [0x01]);
 /// assert_eq!(exchange.reply_attempts(), 1);
 /// assert_eq!(exchange.reply(1), Some(&[0x01, 0x2A, 0xB1][..]));
 /// assert_eq!(exchange.reply(2), None);
@@ -217,6 +221,29 @@ impl Exchange {
         telegram(&self.command, COMMAND_HEAD)
     }
 
+    /// SRC, the address of the initiator that sent the command.
+    pub fn source(&self) -> u8 {
+        self.command[0]
+    }
+
+    /// DST, the address that the command was sent to; it decides the
+    /// [`kind`](Exchange::kind).
+    pub fn destination(&self) -> u8 {
+        self.command[1]
+    }
+
+    /// The service that the command asks for: PB, the primary command byte, and
+    /// SB, the secondary one, in this order.
+    pub fn service(&self) -> (u8, u8) {
+        (self.command[2], self.command[3])
+    }
+
+    /// The data of the command; [`data`](Exchange::data) is that of the reply.
+    pub fn command_data(&self) -> &[u8] {
+        let command = self.command();
+        &command[COMMAND_HEAD..command.len() - 1]
+    }
+
     /// The attempts at the command, 1 or 2.
     pub fn command_attempts(&self) -> u8 {
         self.judged.command_attempts
@@ -259,7 +286,8 @@ fn telegram(buffer: &[u8], head: usize) -> &[u8] {
 }
 
 /// Judges a recorded run from its start. At most 2^31 bytes are read, as if the
-/// run ended there. [`Listener`](super::Listener) judges bytes as they arrive.
+/// run ended there. [`exchanges`](super::exchanges) judges one exchange after the
+/// other, and [`Listener`](super::Listener) bytes as they arrive.
 ///
 /// The run may start in idle time: as long as nothing of the first command has
 /// come but its source, and perhaps half an escape, SYN drops that, and the

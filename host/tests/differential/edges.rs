@@ -4,6 +4,7 @@
 
 use crate::board::{ask, contest, scan, table_valid, Asked, Board};
 use crate::calls;
+use crate::captures;
 use crate::eventedges;
 use crate::fill::{self, scan_and_repeat};
 use crate::hands::hear_with;
@@ -35,6 +36,7 @@ pub fn run_all(session: &mut Session) {
     telegrams(session);
     exchanges(session);
     listening(session);
+    captures::run_all(session);
     reply_data(session);
     frames(session);
     tables(session);
@@ -124,7 +126,7 @@ const IDLE: &[u8] = &[0xAA, 0xA9, 0xAA, 0x10, 0xAA, 0xFF, 0xA9, 0xAA];
 
 /// Exchanges that are accepted: each kind, with and without repetitions, and
 /// some behind idle time.
-fn good_exchanges() -> Vec<Vec<u8>> {
+pub fn good_exchanges() -> Vec<Vec<u8>> {
     let broadcast = &[0x10, 0xFE, 0x07, 0xFE, 0x00][..];
     let initiator = &[0x31, 0x10, 0x07, 0x04, 0x01, 0xAA][..];
     let sixteen = &[[0x10, 0x08, 0xAA, 0xA9, 0x10].as_slice(), &[0xA9; 16]].concat()[..];
@@ -148,7 +150,7 @@ fn good_exchanges() -> Vec<Vec<u8>> {
 
 /// Exchanges that are refused at the second FF, one whose LEN is 17, idle time
 /// without an exchange, and SYN where the second command is due.
-fn refused_exchanges() -> Vec<Vec<u8>> {
+pub fn refused_exchanges() -> Vec<Vec<u8>> {
     vec![
         [COMMAND, &[0xFF], COMMAND, &[0xFF, 0xAA]].concat(),
         [COMMAND, &[0x00], REPLY, &[0xFF], REPLY, &[0xFF, 0xAA]].concat(),

@@ -3,6 +3,7 @@
 
 use crate::board::{ask, contest, scan, table_valid, Asked, Board};
 use crate::calls;
+use crate::captures;
 use crate::cuts::listening;
 use crate::fill;
 use crate::hands::in_hand;
@@ -31,6 +32,8 @@ const FAMILIES: &[Family] = &[
     ("listening from idle time on", 44, idle::listening),
     ("bytes in hand", 18, in_hand),
     ("states of any bytes", 30, states),
+    ("captures", 85, captures::positions),
+    ("walks over captures", 15, captures::walks),
     ("frames", 93, frames),
     ("FF before answers", 65, fill::answers),
     ("tables", 18, devices),

@@ -25,7 +25,7 @@ pub fn recording(random: &mut Random) -> (usize, Vec<u8>) {
 }
 
 /// Up to 40 pieces, seldom none, seldom thousands.
-fn idle_time(random: &mut Random) -> Vec<u8> {
+pub fn idle_time(random: &mut Random) -> Vec<u8> {
     let pieces = match random.below(300) {
         0 => 1000 + random.below(2000),
         1..=99 => random.below(4),
@@ -47,7 +47,7 @@ fn idle_time(random: &mut Random) -> Vec<u8> {
 
 /// Bytes near those that are thrown away: a wrong source, a wrong escape, and
 /// two logical bytes before SYN.
-fn near_miss(random: &mut Random) -> Vec<u8> {
+pub fn near_miss(random: &mut Random) -> Vec<u8> {
     let (source, byte) = (inputs::initiator(random), random.byte());
     match random.below(6) {
         0 => vec![byte, SYN],

@@ -1,4 +1,5 @@
-//! Idle time of a million bytes, and of more than are read of a recording.
+//! Idle time of a million bytes, and of more than are read of a recording; and
+//! captures that are longer than that.
 
 use std::ffi::{c_char, c_int, c_uint};
 use std::fs::File;
@@ -8,7 +9,7 @@ use std::ptr;
 use std::slice;
 
 use moortinker::ebus::{judge, Exchange, Listener};
-use moortinker::Refusal;
+use moortinker::{sys, Refusal};
 
 use crate::edges::EXCHANGE;
 use crate::hearing::{MOST_USED, PROMISE};
@@ -34,12 +35,18 @@ pub fn run_all(session: &mut Session) {
     for length in [64, 4096, million.len()] {
         heard(session, &million, length, read);
     }
-    let longest = longer_than_is_read();
+    let longest = longer_than_is_read(0xAA);
     judged(session, longest, Err((3, MOST_USED)));
+    // A capture may be longer.
+    let end = longest.len();
+    longest[end - EXCHANGE.len()..].copy_from_slice(&EXCHANGE);
+    found(session, longest, 0, (end - EXCHANGE.len(), end));
+    found(session, longer_than_is_read(0x55), 0, (0, end));
     // The exchange's SYN is the last byte that is used.
     let last = MOST_USED - EXCHANGE.len()..MOST_USED;
     longest[last].copy_from_slice(&EXCHANGE);
     heard(session, longest, longest.len(), Ok(MOST_USED));
+    found(session, longest, MOST_USED, (end - EXCHANGE.len(), end));
 }
 
 /// Judges a recording at once.
@@ -58,6 +65,17 @@ fn heard(session: &mut Session, recording: &[u8], length: usize, promised: Told)
     let read = promised.unwrap_or_else(|(_, place)| place);
     let compared = same_between(PROMISE, "use and answer", &told, &(read, promised));
     settle(session, Function::Close, recording, promised, compared);
+}
+
+/// Looks for an exchange from a position of a capture on.
+fn found(session: &mut Session, capture: &[u8], at: usize, promised: (usize, usize)) {
+    // SAFETY: the pointer comes with its length.
+    let told = unsafe { sys::moor_next_exchange(capture.as_ptr(), capture.len(), at) };
+    let compared = same_between(PROMISE, "answer", &(told.start, told.end), &promised);
+    session.settle(Function::NextExchange, 0, compared, || {
+        let length = capture.len();
+        format!("{length} bytes that begin with {:02X}, at {at}", capture[0])
+    });
 }
 
 fn settle(
@@ -87,17 +105,17 @@ fn told(answer: Result<Exchange, Refusal>) -> Told {
     Ok(exchange.bytes_read())
 }
 
-/// SYN, and a little more of it than is read of any recording. All pieces are
-/// the same memory until they are written to.
-fn longer_than_is_read() -> &'static mut [u8] {
+/// This byte, and a little more of it than is read of any recording. All pieces
+/// are the same memory until they are written to.
+fn longer_than_is_read(byte: u8) -> &'static mut [u8] {
     let length = MOST_USED + PIECE;
     // SAFETY: the name ends with 0, and the file is this function's alone.
     let mut file = unsafe {
-        let number = memfd_create(c"syn".as_ptr(), 0);
+        let number = memfd_create(c"piece".as_ptr(), 0);
         assert_ne!(number, -1, "memfd_create refused");
         File::from_raw_fd(number)
     };
-    file.write_all(&vec![0xAA; PIECE])
+    file.write_all(&vec![byte; PIECE])
         .expect("room for a piece");
     // SAFETY: a fresh mapping touches nothing of the program. Every piece of it
     // is then mapped to the file, which has a piece's length; they stay until

@@ -30,6 +30,9 @@ sub-turns c = search needs
 turn-requires : tie.Need-turn-requires Inv-loop μ-loop
 turn-requires c κs = search needs
 
+finish-requires : tie.Need-finish-requires Inv-loop μ-loop
+finish-requires c κs = search needs
+
 same-length : tie.Need-same-length Inv-loop μ-loop
 same-length c = search needs
 
@@ -60,6 +63,7 @@ session-spec =
     loop-holds
     sub-turns
     turn-requires
+    finish-requires
     same-length
     returns
     loop-less

@@ -1,0 +1,2 @@
+-- Laws of captures that belong to no one function.
+pub mod Through

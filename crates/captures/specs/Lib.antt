@@ -1,0 +1,2 @@
+-- Where the exchanges of a capture stand.
+pub mod Capture

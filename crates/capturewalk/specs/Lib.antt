@@ -1,0 +1,3 @@
+-- A whole capture, exchange after exchange.
+pub mod Walk
+pub mod Runs

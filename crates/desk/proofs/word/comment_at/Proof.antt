@@ -1,0 +1,52 @@
+-- `desk::word::comment_at` is safe and ends.
+-- Assumes nothing.
+use Prim.Native.Nat.{_≤_, _-_}
+use lib.ListN.{length}
+use borrow.Author.Needs.{needs}
+use Rattle.desk.proofs.word.comment_at.Statement.{statement}
+use Rattle.desk.proofs.word.comment_at.Tie as tie
+
+abbrev Inv-loop : tie.InvT-loop
+Inv-loop line blank₀ i₀ blank i = i ≤ length line
+
+abbrev μ-loop : tie.MeasureT-loop
+μ-loop line blank₀ i₀ blank i = length line - i
+
+loop-holds : tie.Need-loop-holds Inv-loop μ-loop
+loop-holds c = search needs
+
+shared-slice-read-b : tie.Need-shared-slice-read-b Inv-loop μ-loop
+shared-slice-read-b c = search needs
+
+returns : tie.Need-returns Inv-loop μ-loop
+returns c = search needs
+
+is-blank-requires : tie.Need-is-blank-requires Inv-loop μ-loop
+is-blank-requires c κs = search needs
+
+add-i : tie.Need-add-i Inv-loop μ-loop
+add-i c = search needs
+
+loop-less : tie.Need-loop-less Inv-loop μ-loop
+loop-less c = search needs
+
+loop-again : tie.Need-loop-again Inv-loop μ-loop
+loop-again c = search needs
+
+returns-2 : tie.Need-returns-2 Inv-loop μ-loop
+returns-2 c = search needs
+
+pub comment-at-spec : {M : Type 1} → statement M
+comment-at-spec =
+    tie.close
+    (tie.spec
+    Inv-loop
+    μ-loop
+    loop-holds
+    shared-slice-read-b
+    returns
+    is-blank-requires
+    add-i
+    loop-less
+    loop-again
+    returns-2)

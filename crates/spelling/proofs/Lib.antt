@@ -1,0 +1,1 @@
+-- Nothing stands here: each proof belongs to one function.
