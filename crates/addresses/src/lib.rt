@@ -1,4 +1,6 @@
 // Addresses: which are initiators', and what kind of exchange a destination asks for.
+#![tactic(auto)]
+
 ghost use Rattle.std.specs.Prelude.{◌≡◌};
 ghost use Rattle.addresses.specs.Address.{initiator_nibble, initiator, reserved, kind_of};
 

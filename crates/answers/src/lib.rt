@@ -3,6 +3,8 @@
 // Rules F4 and F5. An answer comes behind up to 32 FF, which the reader counts. The reader takes any
 // bytes and any length; what it refuses, it refuses by number and place. A writer writes the whole
 // frame or nothing, and leaves the bytes behind it.
+#![tactic(auto)]
+
 ghost use Rattle.std.specs.Prelude.{◌≡◌, ◌+◌, ◌*◌, ◌<◌, min, length, get_or, drop};
 ghost use mathlib.Mathlib.Logic.Function.Defs.{id};
 ghost use Rattle.refusal.specs.Output.{Wrote};

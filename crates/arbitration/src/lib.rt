@@ -4,6 +4,8 @@
 // Rule D3. Keys are plain numbers here, and the number of windows is
 // the caller's. Those still in the contest are the keys whose high bits are the ones that the
 // windows so far gave, so the recursion carries those bits and no set.
+#![tactic(auto)]
+
 ghost use Rattle.std.specs.Prelude.{◌≡◌, true, [], ◌∷◌, ◌+◌, ◌*◌, ◌^◌, ◌≤◌, ◌<◌, length};
 ghost use Rattle.lists.specs.Tests.{any, how_many};
 ghost use Rattle.arbitration.specs.Contest.{dominant_windows, fits, decided};

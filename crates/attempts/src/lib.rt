@@ -2,6 +2,8 @@
 //
 // A refusal is returned as soon as it is met. Nothing is stored: an attempt says where it ends, and
 // its bytes are taken from the run once the exchange is accepted.
+#![tactic(auto)]
+
 ghost use Rattle.std.specs.Prelude.{◌≡◌, ◌+◌, ◌≤◌, ◌<◌, length, get_or, Bool, true, ◌&&◌};
 ghost use Rattle.refusal.specs.Number.{source_wrong, at_place};
 ghost use Rattle.escapes.specs.Logical.{logicals_at};

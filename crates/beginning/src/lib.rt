@@ -1,5 +1,7 @@
 // Where the command of a recording starts (rule E21): behind any number of pieces that a SYN ended
 // before two logical bytes had come.
+#![tactic(auto)]
+
 ghost use Rattle.std.specs.Prelude.{◌≡◌, ◌++◌, ◌-◌, ◌<◌, length, get_or, drop};
 ghost use Rattle.beginning.specs.Beginning.{piece_of, piece, command_start, passed_over};
 

@@ -3,6 +3,8 @@
 //
 // In an answer of a call that can refuse the number is 0 where the call was accepted, and else rule
 // N1's number with the place beside it; the other values are then 0.
+#![tactic(auto)]
+
 ghost use Rattle.std.specs.Prelude.{◌≡◌};
 ghost use Rattle.addresses.specs.Address.{kind_number};
 ghost use Rattle.boundary.specs.ForC.{written_for_c, logical_for_c, judged_for_c};

@@ -1,4 +1,6 @@
 // The exchanges of a capture, for C.
+#![tactic(auto)]
+
 ghost use Rattle.std.specs.Prelude.{◌≡◌};
 ghost use Rattle.captures.specs.Capture.{next_exchange};
 

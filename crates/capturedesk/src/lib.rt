@@ -2,6 +2,8 @@
 //
 // The capture is read in runs of 64 bytes through the byte-fed judge, and only the stretch in hand is
 // kept, so that a capture of any size takes the same memory.
+#![tactic(auto)]
+
 mod arguments;
 mod counts;
 mod input;

@@ -1,4 +1,6 @@
 // The capture command on the example capture, so that its report is compared with each check.
+#![tactic(auto)]
+
 fn main() {
     capturedesk::from_arguments();
 }

@@ -3,6 +3,8 @@
 // A raw AA is always SYN, and an exchange holds none before its end. So the stretch in which the next
 // exchange stands begins behind idle time and goes on through the next SYN, whether the exchange is
 // accepted or refused there, or was refused before.
+#![tactic(auto)]
+
 ghost use Rattle.std.specs.Prelude.{◌≡◌};
 ghost use Rattle.captures.specs.Capture.{through_syn, next_exchange};
 

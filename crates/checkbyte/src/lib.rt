@@ -4,6 +4,8 @@
 // stack. So a loop takes it once, who checks several telegrams takes it once for all of them, and the
 // second table is taken where it pays for itself. A step waits for the one before it, which is what the
 // check's time goes into: with two bytes a step there are half as many.
+#![tactic(auto)]
+
 mod table;
 mod tables;
 

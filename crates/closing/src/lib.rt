@@ -1,4 +1,6 @@
 // Closing a state of listening: its answer, and the three buffers (rules E19 and E20).
+#![tactic(auto)]
+
 ghost use Rattle.std.specs.Prelude.{◌≡◌, true, length};
 ghost use mathlib.Mathlib.Logic.Function.Defs.{id};
 ghost use Rattle.refusal.specs.Number.{output_short, run_ended, at_place};

@@ -3,6 +3,8 @@
 // Rule D12. The stored flag of a device is that of its next packet. As long as a packet is not
 // confirmed, it is that packet's flag too, since the same events would be sent again with it; so a
 // confirmation is right where the flag is the stored one and a packet was sent at all.
+#![tactic(auto)]
+
 ghost use Rattle.std.specs.Prelude.{◌≡◌, set};
 ghost use Rattle.queues.specs.Queues.{queue_columns};
 ghost use Rattle.confirmation.specs.Confirmation.{other_flag, Leaves, confirmed};

@@ -5,6 +5,8 @@
 // that indexes it builds it on the stack at each call, 1,024 bytes here. On a short frame that costs more
 // than the check itself. So a short frame is checked without the rows, a byte a step, and each entry is
 // worked out where it is needed; a longer one is checked by the rows, two bytes a step.
+#![tactic(auto)]
+
 mod rows;
 
 ghost use Rattle.std.specs.Prelude.{◌≡◌, ◌<◌};

@@ -1,5 +1,7 @@
 // The CRC7 of Railbus and the checksum that a packet ends with: rule R2. A third use of the register
 // step of `crc`.
+#![tactic(auto)]
+
 ghost use Rattle.std.specs.Prelude.{◌≡◌, ◌<◌};
 ghost use Rattle.crc.specs.Register.{left, steps};
 ghost use Rattle.crc7.specs.Check.{crc7_polynomial, crc7, checksum};

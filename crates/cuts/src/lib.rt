@@ -3,3 +3,5 @@
 //
 // The crate holds the statements and their proofs; the calls are in `listening`, `feeding`, `closing`
 // and `exchange`.
+#![tactic(auto)]
+

@@ -1,5 +1,7 @@
 // What the desk tool's commands share: what a line holds, what the tool keeps from line to line, and
 // the page that answers are put on.
+#![tactic(auto)]
+
 pub mod expected;
 pub mod explain;
 pub mod fault;

@@ -2,6 +2,8 @@
 //
 // Rules D4 to D8. The table is three lent columns. Every call checks what it
 // was lent before it changes anything: the room of its outputs first, then the table, then its input.
+#![tactic(auto)]
+
 mod bus;
 mod trace;
 mod wire;

@@ -3,6 +3,8 @@
 // Rules E3 to E5. `logical_at` is the one reader that judges escapes, and what is above it reads
 // logical bytes. Where they were judged already, the judge's copy of them looks at A9 alone
 // (`exchange::wire::copy_logical`).
+#![tactic(auto)]
+
 ghost use Rattle.std.specs.Prelude.{◌≡◌, ◌+◌, ◌≤◌, length, take};
 ghost use mathlib.Mathlib.Logic.Function.Defs.{id};
 ghost use Rattle.lists.specs.Starting.{starting};

@@ -3,6 +3,8 @@
 //
 // In an answer of a call that can refuse the number is 0 where the call was accepted, and else rule
 // N1's number with the place beside it; the other values are then 0.
+#![tactic(auto)]
+
 ghost use Rattle.std.specs.Prelude.{◌≡◌};
 ghost use Rattle.eventboundary.specs.ForC.{event_request_for_c, events_for_c, event_for_c, added_for_c, polled_for_c};
 

@@ -1,4 +1,6 @@
 // The event queues of the devices for C, and polls.
+#![tactic(auto)]
+
 ghost use Rattle.std.specs.Prelude.{◌≡◌};
 ghost use Rattle.table.specs.Table.{columns};
 ghost use Rattle.eventrequests.specs.declared.EventRequestRead.TheVariants.{Asked};

@@ -1,4 +1,6 @@
 // The desk tool's commands of events. Each is one call of the library.
+#![tactic(auto)]
+
 mod frames;
 mod polling;
 mod queueing;

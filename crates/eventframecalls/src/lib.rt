@@ -1,4 +1,6 @@
 // The frames of event polling for C.
+#![tactic(auto)]
+
 ghost use Rattle.std.specs.Prelude.{◌≡◌, length};
 ghost use Rattle.refusal.specs.Output.{Wrote};
 ghost use Rattle.eventrequests.specs.Reading.{read_event_request};

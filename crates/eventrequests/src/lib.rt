@@ -3,6 +3,8 @@
 // Rule F6. A client asks all devices for events. The reader takes any bytes and any length; what it
 // refuses, it refuses by number and place. The writer writes the whole frame or nothing, and leaves
 // the bytes behind it.
+#![tactic(auto)]
+
 ghost use Rattle.std.specs.Prelude.{◌≡◌, length};
 ghost use mathlib.Mathlib.Logic.Function.Defs.{id};
 ghost use Rattle.refusal.specs.Output.{Wrote};

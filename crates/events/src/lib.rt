@@ -3,6 +3,8 @@
 //
 // Rule F7. Events stay where they are in the input: `event_at` takes them apart one after the other,
 // and `event_data` hands out the data of one as a part of the input.
+#![tactic(auto)]
+
 ghost use Rattle.std.specs.Prelude.{◌≡◌, ◌+◌, ◌*◌, ◌<◌, length, get_or};
 ghost use Rattle.events.specs.Events.{is_id, event_at, ShowsEventData, events_in, listing_of};
 

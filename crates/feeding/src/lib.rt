@@ -3,6 +3,8 @@
 // All of a state but its bytes is in hand as marks, a few numbers; what was kept lies in one array,
 // and the raw bytes are put into a state at the end, where an attempt stays undecided. So a state is
 // copied once, and not at every step.
+#![tactic(auto)]
+
 mod attempt;
 mod marks;
 

@@ -1,4 +1,6 @@
 // The scan frames of Fast Modbus for C.
+#![tactic(auto)]
+
 ghost use Rattle.std.specs.Prelude.{◌≡◌, length};
 ghost use Rattle.refusal.specs.Output.{Wrote};
 ghost use Rattle.requests.specs.Reading.{read_request};

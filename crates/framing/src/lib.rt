@@ -3,6 +3,8 @@
 // Rules F1 and F2. A frame at a position of an input is read up to its subcommand, and what it carries
 // stays where it is; a body is written with its check behind it. The frames themselves, requests and
 // answers, are the crates above.
+#![tactic(auto)]
+
 ghost use Rattle.std.specs.Prelude.{◌≡◌, ◌||◌, ◌++◌, ◌+◌, ◌-◌, ◌≤◌, eqb, length, get_or, take, drop};
 ghost use mathlib.Mathlib.Logic.Function.Defs.{id};
 ghost use Rattle.lists.specs.Tests.{same};

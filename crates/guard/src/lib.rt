@@ -1,4 +1,6 @@
 // The one guard before every call (rule N2): number 1, then number 2, then the input.
+#![tactic(auto)]
+
 ghost use Rattle.std.specs.Prelude.{◌≡◌};
 ghost use Rattle.guard.specs.Guard.{guard};
 

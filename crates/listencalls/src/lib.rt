@@ -1,4 +1,6 @@
 // Listening to an exchange, for C.
+#![tactic(auto)]
+
 ghost use Rattle.std.specs.Prelude.{◌≡◌, length};
 ghost use Rattle.exchange.specs.View.{Judges};
 ghost use Rattle.listening.specs.Listening.{fresh, has_answered, fed, closing, closing_state};

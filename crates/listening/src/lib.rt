@@ -5,6 +5,8 @@
 // and yet the answer is that of one byte after the other.
 //
 // This crate has the state and the definitions; `feeding` feeds it and `closing` closes it.
+#![tactic(auto)]
+
 ghost use Rattle.std.specs.Prelude.{◌≡◌, ◌+◌, min};
 ghost use Rattle.exchange.specs.Exchange.{limit};
 ghost use Rattle.listening.specs.Listening.{hand_room, fresh, has_answered};

@@ -3,6 +3,8 @@
 //
 // The crate's definitions are the ones that every other takes for granted: a choice by a test, a
 // list that starts with another, and how many, which and where the numbers are that pass a test.
+#![tactic(auto)]
+
 ghost use Rattle.std.specs.Prelude.{◌≡◌, min, length, get_or, take};
 ghost use Rattle.lists.specs.Starting.{starting};
 

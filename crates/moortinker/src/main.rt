@@ -1,5 +1,7 @@
 // The desk tool: reads commands from standard input, one a line, and writes what the proved library
 // answers.
+#![tactic(auto)]
+
 mod commands;
 mod device_commands;
 mod ebus_commands;

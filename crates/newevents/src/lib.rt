@@ -1,6 +1,8 @@
 // A new event, put into the queue of the device that it is for.
 //
 // Rule D11.
+#![tactic(auto)]
+
 mod slots;
 
 ghost use Rattle.std.specs.Prelude.{◌≡◌};

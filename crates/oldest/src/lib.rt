@@ -2,6 +2,8 @@
 // and the queue without them. Slots that are not there count as 0.
 //
 // Rule D10.
+#![tactic(auto)]
+
 ghost use Rattle.std.specs.Prelude.{◌≡◌, drop};
 ghost use Rattle.lists.specs.Starting.{starting};
 ghost use Rattle.queues.specs.Queues.{queued_from};

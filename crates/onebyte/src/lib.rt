@@ -1,5 +1,7 @@
 // The Modbus check one byte a step, as it was taken before longer runs took two. The benchmark measures
 // the one against the other; nothing else uses this crate, and the archive for C and Rust leaves it out.
+#![tactic(auto)]
+
 ghost use Rattle.std.specs.Prelude.{◌≡◌};
 ghost use Rattle.crc.specs.Check.{modbus_check};
 

@@ -4,6 +4,8 @@
 // behind up to 32 FF, which the reader counts. The reader takes any bytes and any length; what it
 // refuses, it refuses by number and place. The writer writes the whole frame or nothing, and leaves the
 // bytes behind it. Events stay where they are in the input, where `events::event_at` takes them apart.
+#![tactic(auto)]
+
 ghost use Rattle.std.specs.Prelude.{◌≡◌, true, ◌+◌, ◌≤◌, length, get_or};
 ghost use mathlib.Mathlib.Logic.Function.Defs.{id};
 ghost use Rattle.refusal.specs.Number.{at_place};

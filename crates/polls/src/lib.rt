@@ -3,6 +3,8 @@
 // Rules D12 to D15. The queues are four lent columns beside the table, which a poll leaves as it is.
 // Every call checks what it was lent before it changes anything: the room of its output first,
 // then table and queues, then its input.
+#![tactic(auto)]
+
 mod answer;
 mod keys;
 mod packing;

@@ -3,6 +3,8 @@
 // Rule D10. Each device has a flag, that of its next packet; how many events its last packet had, as
 // long as that waits for its confirmation; how many events are queued; and 8 slots of 13 bytes, the
 // oldest event first.
+#![tactic(auto)]
+
 mod validity;
 
 ghost use Rattle.std.specs.Prelude.{◌≡◌};

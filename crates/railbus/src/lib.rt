@@ -4,6 +4,8 @@
 // letters 32 bits of data, and a checksum, numbers in upper-case hex. The reader takes any bytes and
 // any length; what it refuses, it refuses by number and place. The writer writes the whole packet or
 // nothing, and leaves the bytes behind it.
+#![tactic(auto)]
+
 mod hex;
 
 ghost use Rattle.std.specs.Prelude.{◌≡◌, not, ◌&&◌, ◌||◌, ◌++◌, ◌+◌, ◌-◌, ◌≤◌, eqb, leb, length, take, drop};

@@ -2,6 +2,8 @@
 //
 // In an answer of a call that can refuse the number is 0 where the call was accepted, and else rule
 // N1's number with the place beside it; the other values are then 0, but for the remembered write.
+#![tactic(auto)]
+
 ghost use Rattle.std.specs.Prelude.{◌≡◌, length};
 ghost use Rattle.lists.specs.Choice.{pick};
 ghost use Rattle.refusal.specs.Output.{Wrote};

@@ -1,4 +1,6 @@
 // The desk tool's commands of Railbus. Each is one call of the library.
+#![tactic(auto)]
+
 mod device;
 mod packets;
 

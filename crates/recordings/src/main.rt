@@ -1,5 +1,7 @@
 // Published frames and made cases, each run through the library and held to what it must give.
 // One line for each group says how many were run and how many were right.
+#![tactic(auto)]
+
 mod cases;
 mod checks;
 mod escaping;

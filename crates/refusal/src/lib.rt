@@ -2,6 +2,8 @@
 //
 // The constants read like the table of numbers in docs/RULES.md. Each crate above
 // takes its numbers from here, so a new number is a new line here and changes no `match`.
+#![tactic(auto)]
+
 
 // What was lent for output has too little room.
 pub const OUTPUT_SHORT: u8 = 1;

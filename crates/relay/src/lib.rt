@@ -3,6 +3,8 @@
 // Rules R5 to R10. The device is 256 lent registers and as many access bytes; the one write that it
 // remembers goes in by value and comes back by value. Every call checks what it was lent before it
 // changes anything: the room of its output first, then registers and access bytes, then its input.
+#![tactic(auto)]
+
 mod answers;
 
 ghost use Rattle.std.specs.Prelude.{◌≡◌, ◌≤◌, length};

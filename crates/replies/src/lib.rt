@@ -1,4 +1,6 @@
 // The data of a reply, as a part of the buffer that holds it.
+#![tactic(auto)]
+
 ghost use Rattle.std.specs.Prelude.{◌≡◌};
 ghost use Rattle.replies.specs.Data.{holds_data, ShowsData};
 

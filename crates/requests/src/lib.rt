@@ -2,6 +2,8 @@
 //
 // Rule F3. The reader takes any bytes and any length; what it refuses, it refuses by number and
 // place. The writer writes the whole frame or nothing, and leaves the bytes behind it.
+#![tactic(auto)]
+
 ghost use Rattle.std.specs.Prelude.{◌≡◌, length};
 ghost use mathlib.Mathlib.Logic.Function.Defs.{id};
 ghost use Rattle.refusal.specs.Output.{Wrote};

@@ -3,6 +3,8 @@
 //
 // In an answer of a call that can refuse the number is 0 where the call was accepted, and else rule
 // N1's number with the place beside it; the other values are then 0.
+#![tactic(auto)]
+
 ghost use Rattle.std.specs.Prelude.{◌≡◌, ◌-◌};
 ghost use Rattle.scanboundary.specs.ForC.{response_for_c, decided_for_c, request_for_c, answer_for_c, found_by, scanned_for_c};
 

@@ -1,4 +1,6 @@
 // The devices' side of a Fast Modbus scan for C.
+#![tactic(auto)]
+
 ghost use Rattle.std.specs.Prelude.{◌≡◌};
 ghost use Rattle.arbitration.specs.Contest.{decided};
 ghost use Rattle.table.specs.Table.{columns, valid};

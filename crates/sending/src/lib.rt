@@ -1,5 +1,7 @@
 // Telegrams written as they go on the wire: the logical bytes are put together, the check byte
 // behind them, and all of it is expanded into the lent output.
+#![tactic(auto)]
+
 ghost use Rattle.std.specs.Prelude.{◌≡◌, ◌++◌, ◌+◌, ◌<◌, ◌≤◌, length, take};
 ghost use mathlib.Mathlib.Logic.Function.Defs.{id};
 ghost use Rattle.refusal.specs.Number.{at_place};

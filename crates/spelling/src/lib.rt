@@ -3,6 +3,8 @@
 //
 // Each function takes how many bytes are there and answers how many are there then. What has no room
 // is left out.
+#![tactic(auto)]
+
 use lists::{put, smaller};
 
 // Room for a line.

@@ -1,6 +1,8 @@
 // The device table: three lent columns, and when they are valid.
 //
 // Rule D1.
+#![tactic(auto)]
+
 ghost use Rattle.std.specs.Prelude.{◌≡◌, eqb};
 ghost use Rattle.lists.specs.Tests.{any, all, different};
 ghost use Rattle.table.specs.Table.{columns, serial_right, mark_right, valid};

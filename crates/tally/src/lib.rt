@@ -1,5 +1,7 @@
 // What the programs of recordings share: how many cases of a group were run, and how many gave what
 // they must; and parts of what is lent.
+#![tactic(auto)]
+
 pub mod part;
 
 use libc::STDOUT_FILENO;

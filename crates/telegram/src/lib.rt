@@ -6,6 +6,8 @@
 // The reader stores nothing: it says how far a telegram reaches. Who wants its bytes takes them from
 // the run afterwards (`escapes::put_logical`), so that a refusal has written nothing, and no copy
 // waits for bytes that were stored just before.
+#![tactic(auto)]
+
 ghost use Rattle.std.specs.Prelude.{◌≡◌, true, false, ◌+◌, ◌≤◌, List, [], ℕ, length};
 ghost use Rattle.refusal.specs.Number.{at_place};
 ghost use Rattle.telegram.specs.Telegram.{command_head, head_of, last_of, check_right, field_at, fault_of, collected, telegram_at};

@@ -1,4 +1,6 @@
 // Telegrams and exchanges on eBUS for C.
+#![tactic(auto)]
+
 ghost use Rattle.std.specs.Prelude.{◌≡◌, length};
 ghost use Rattle.refusal.specs.Output.{fitting, Wrote};
 ghost use Rattle.telegram.specs.Telegram.{telegram_at, check_right};

@@ -2,6 +2,8 @@
 //
 // Rules D2 to D5. The crate holds the definitions and their laws; the calls that make a request are in
 // the crate above.
+#![tactic(auto)]
+
 
 // A contest has so many windows: one for each bit of a key.
 pub const WINDOWS: u32 = 32;

@@ -1,4 +1,6 @@
 // The checks, addresses and escapes for C.
+#![tactic(auto)]
+
 ghost use Rattle.std.specs.Prelude.{◌≡◌, length};
 ghost use Rattle.refusal.specs.Output.{bytes, fitting, Wrote};
 ghost use Rattle.checkbyte.specs.Check.{ebus_check};
