@@ -10,7 +10,7 @@ use escapes::{ESC, SYN};
 const EVERYONE: u8 = 0xFE;
 
 // The kind of an exchange, which its destination decides.
-#[derive(Drop)]
+#[derive(Clone, Copy)]
 pub enum ExchangeKind {
     Broadcast,
     InitiatorInitiator,

@@ -21,14 +21,14 @@ pub const FILL: u8 = 0xFF;
 pub const MOST_FILL: usize = 32;
 
 // What a reader passes over before a frame: so many FF, or the refusal of one FF more.
-#[derive(Drop)]
+#[derive(Clone, Copy)]
 pub enum Skipped {
     Fill(usize),
     Refused(Refusal),
 }
 
 // What the answer reader finds, with how many FF it passed over.
-#[derive(Drop)]
+#[derive(Clone, Copy)]
 pub enum AnswerRead {
     Found {
         skipped: usize,

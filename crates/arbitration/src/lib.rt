@@ -19,7 +19,7 @@ const PART: usize = 65536;
 
 // What a contest decides: where in the list of keys the winner's stands first, that key, and how
 // many windows were dominant.
-#[derive(Drop)]
+#[derive(Clone, Copy)]
 pub struct Decided {
     pub place: usize,
     pub key: u32,

@@ -26,7 +26,7 @@ const ACK: u8 = 0x00;
 const NACK: u8 = 0xFF;
 
 // An acknowledge byte: 00, FF, or why it is neither.
-#[derive(Drop)]
+#[derive(Clone, Copy)]
 enum Acknowledge {
     Positive,
     Negative,
@@ -34,7 +34,7 @@ enum Acknowledge {
 }
 
 // How an attempt ended.
-#[derive(Drop)]
+#[derive(Clone, Copy)]
 pub enum Standing {
     Taken,
     Nacked,
@@ -44,7 +44,7 @@ pub enum Standing {
 // An attempt: how many bytes it has, the position behind the byte that decides it, and why it failed,
 // if it did. Behind a taken attempt the exchange goes on; a NACK's FF is the byte before. As in
 // `Extent` the refusal stands beside the enum, so that it is not put together in memory.
-#[derive(Drop)]
+#[derive(Clone, Copy)]
 pub struct Attempt {
     pub len: usize,
     pub next: usize,

@@ -23,7 +23,7 @@ const INITIATOR_TARGET: u8 = 3;
 
 // What a call that writes gives: the length of what it wrote.
 #[repr(C)]
-#[derive(Drop)]
+#[derive(Clone, Copy)]
 pub struct MoorWritten {
     pub number: u8,
     pub place: usize,
@@ -32,7 +32,7 @@ pub struct MoorWritten {
 
 // A logical byte, and the position behind it.
 #[repr(C)]
-#[derive(Drop)]
+#[derive(Clone, Copy)]
 pub struct MoorLogical {
     pub number: u8,
     pub byte: u8,
@@ -43,7 +43,7 @@ pub struct MoorLogical {
 // A telegram: the first bytes, as many as length says, the place of the last one, and the position
 // behind it.
 #[repr(C)]
-#[derive(Drop)]
+#[derive(Clone, Copy)]
 pub struct MoorTelegram {
     pub number: u8,
     pub place: usize,
@@ -55,7 +55,7 @@ pub struct MoorTelegram {
 
 // A judged exchange: kind, attempts at command and reply, and raw bytes read.
 #[repr(C)]
-#[derive(Drop)]
+#[derive(Clone, Copy)]
 pub struct MoorJudged {
     pub number: u8,
     pub kind: u8,
@@ -67,7 +67,7 @@ pub struct MoorJudged {
 
 // Where a reply's data stands: so many bytes from a start in the buffer of attempt 1 or 2.
 #[repr(C)]
-#[derive(Drop)]
+#[derive(Clone, Copy)]
 pub struct MoorPart {
     pub attempt: u8,
     pub start: usize,

@@ -3,7 +3,7 @@ use desk::word;
 
 // Which exchanges have a line, and whether help is asked; the places among the arguments of the file
 // and of one that is not taken, 0 where there is none.
-#[derive(Drop)]
+#[derive(Clone, Copy)]
 pub(crate) struct Asked {
     pub(crate) accepted: bool,
     pub(crate) refused: bool,

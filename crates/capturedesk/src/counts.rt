@@ -4,7 +4,7 @@ use addresses::ExchangeKind;
 // Numbers of refusals are below this.
 pub(crate) const NUMBERS: usize = 32;
 
-#[derive(Drop)]
+#[derive(Clone, Copy)]
 pub(crate) struct Counts {
     pub(crate) broadcast: u64,
     pub(crate) initiator: u64,

@@ -23,7 +23,7 @@ use telegram::{COMMAND_ROOM, REPLY_ROOM};
 // Room for the raw bytes of a stretch: an exchange has no more than 157.
 pub(crate) const STRETCH: usize = 160;
 
-#[derive(Drop)]
+#[derive(Clone, Copy)]
 pub(crate) struct Walk {
     pub(crate) counts: Counts,
     // How many bytes of the capture are behind, how many of them belong to no exchange, and where the

@@ -14,7 +14,7 @@ use lists::smaller;
 
 // A part of a capture: where it starts, and the position behind it.
 #[repr(C)]
-#[derive(Drop)]
+#[derive(Clone, Copy)]
 pub struct Stretch {
     pub start: usize,
     pub end: usize,

@@ -2,4 +2,3 @@
 // is skipped, whatever the bytes are. The statement is specs/Walk.antt, its proof proofs/Walked.antt.
 // There is no code here; the calls are in `captures`, `exchange`, `feeding` and `closing`.
 #![tactic(auto)]
-

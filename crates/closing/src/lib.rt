@@ -18,7 +18,7 @@ use refusal::{OUTPUT_SHORT, RUN_ENDED, Refusal};
 use telegram::{COMMAND_ROOM, REPLY_ROOM};
 
 // The answer, and the state afterwards.
-#[derive(Drop)]
+#[derive(Clone, Copy)]
 pub struct Closed {
     pub answer: Judged,
     pub state: Listening,

@@ -4,4 +4,3 @@
 // The crate holds the statements and their proofs; the calls are in `listening`, `feeding`, `closing`
 // and `exchange`.
 #![tactic(auto)]
-

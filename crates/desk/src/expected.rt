@@ -23,7 +23,7 @@ const MOST_TELEGRAMS: u8 = 4;
 
 // The check that is due and the one that was found. Neither is known where the place is not that of
 // a check.
-#[derive(Drop)]
+#[derive(Clone, Copy)]
 pub struct Checked {
     pub known: bool,
     pub expected: u8,

@@ -43,7 +43,7 @@ pub const NOT_SWITCH: u8 = 18;
 pub const NO_MEANING: u8 = 19;
 
 // The offset in the line says where.
-#[derive(Drop)]
+#[derive(Clone, Copy)]
 pub struct Fault {
     pub what: u8,
     pub at: usize,

@@ -12,7 +12,7 @@ const MOST_HEARD: usize = 256;
 // Those that are kept, and those of one line behind them.
 const BOTH: usize = 8448;
 
-#[derive(Drop)]
+#[derive(Clone, Copy)]
 pub struct Heard {
     pub bytes: [u8; MOST_HEARD],
     // How many of them there are, and how many were heard before them.

@@ -11,7 +11,7 @@ use crate::word;
 pub const MOST: usize = 8192;
 
 // How many bytes were read, or what was wrong.
-#[derive(Drop)]
+#[derive(Clone, Copy)]
 pub enum BytesRead {
     Bytes(usize),
     Wrong(Fault),

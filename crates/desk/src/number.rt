@@ -7,7 +7,7 @@ use crate::fault::{
 use crate::word;
 
 // A number and where the rest of the line begins, or what was wrong.
-#[derive(Drop)]
+#[derive(Clone, Copy)]
 pub enum NumberRead {
     Number(u64, usize),
     Wrong(Fault),
@@ -139,7 +139,7 @@ pub fn one_byte(line: &[u8], at: usize) -> NumberRead {
 }
 
 // Four bytes of a line.
-#[derive(Drop)]
+#[derive(Clone, Copy)]
 pub struct Four {
     pub first: u8,
     pub second: u8,
@@ -148,7 +148,7 @@ pub struct Four {
 }
 
 // Four bytes and where the rest of the line begins, or what was wrong.
-#[derive(Drop)]
+#[derive(Clone, Copy)]
 pub enum FourRead {
     Bytes(Four, usize),
     Wrong(Fault),

@@ -11,7 +11,7 @@ use spelling::glyph;
 // How many bytes a page has.
 const PAGE: usize = 4096;
 
-#[derive(Drop)]
+#[derive(Clone, Copy)]
 pub struct Page {
     bytes: [u8; PAGE],
     // How many of them wait to be written out.
@@ -98,7 +98,7 @@ fn serial(page: Page, s: u32) -> Page {
 }
 
 // Up to three numbers that a text is filled with, the next one first.
-#[derive(Drop)]
+#[derive(Clone, Copy)]
 pub struct Numbers(u64, u64, u64);
 
 pub fn no_number() -> Numbers {

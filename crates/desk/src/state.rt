@@ -24,7 +24,7 @@ pub const SLOTS: usize = 104;
 pub const MOST_SLOTS: usize = 26624;
 
 // The device table: its columns, and how many rows of them there are.
-#[derive(Drop)]
+#[derive(Clone, Copy)]
 pub struct Table {
     pub rows: usize,
     pub serials: [u32; MOST_ROWS],
@@ -34,7 +34,7 @@ pub struct Table {
 
 // The columns of the event queues. Behind the table's rows all is 0, so that a row that is added has
 // an empty queue.
-#[derive(Drop)]
+#[derive(Clone, Copy)]
 pub struct Queues {
     pub flags: [u8; MOST_ROWS],
     pub lasts: [u8; MOST_ROWS],
@@ -44,7 +44,7 @@ pub struct Queues {
 
 // The relay device on Railbus: its address, its registers with their access bytes, and the write that
 // it remembers.
-#[derive(Drop)]
+#[derive(Clone, Copy)]
 pub struct Relay {
     pub address: u8,
     pub registers: [u32; REGISTERS],
@@ -52,7 +52,7 @@ pub struct Relay {
     pub write: Remembered,
 }
 
-#[derive(Drop)]
+#[derive(Clone, Copy)]
 pub struct Desk {
     pub table: Table,
     pub queues: Queues,

@@ -23,7 +23,7 @@ pub const ANSWER_ROOM: usize = 42;
 
 // What a request gives: the length of the answer at the start of the buffer, silence, or the
 // refusal.
-#[derive(Drop)]
+#[derive(Clone, Copy)]
 pub enum Response {
     Answered(usize),
     Silent,
@@ -32,7 +32,7 @@ pub enum Response {
 
 // What a whole scan gives, with the number of requests sent and how many FF stood before all its
 // answers together: the end was heard, nobody is there, or the cap was reached; or the refusal.
-#[derive(Drop)]
+#[derive(Clone, Copy)]
 pub enum Scanned {
     Complete { requests: usize, skipped: usize },
     Nobody { requests: usize, skipped: usize },

@@ -22,7 +22,7 @@ pub const ESC: u8 = 0xA9;
 pub const SYN: u8 = 0xAA;
 
 // A logical byte with the position behind it, or why there is none.
-#[derive(Drop)]
+#[derive(Clone, Copy)]
 pub enum Logical {
     Byte(u8, usize),
     Refused(Refusal),

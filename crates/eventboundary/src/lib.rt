@@ -16,7 +16,7 @@ use polls::Polled;
 
 // An event request that was read.
 #[repr(C)]
-#[derive(Drop)]
+#[derive(Clone, Copy)]
 pub struct MoorEventRequestRead {
     pub number: u8,
     pub minimum: u8,
@@ -29,7 +29,7 @@ pub struct MoorEventRequestRead {
 // What came back for an event request: a packet, or that nobody has events, and how many FF were passed
 // over.
 #[repr(C)]
-#[derive(Drop)]
+#[derive(Clone, Copy)]
 pub struct MoorEventsRead {
     pub number: u8,
     pub answer: u8,
@@ -45,7 +45,7 @@ pub struct MoorEventsRead {
 
 // One event, and where its data starts in the input.
 #[repr(C)]
-#[derive(Drop)]
+#[derive(Clone, Copy)]
 pub struct MoorEvent {
     pub whole: u8,
     pub kind: u8,
@@ -57,7 +57,7 @@ pub struct MoorEvent {
 
 // What a new event gives.
 #[repr(C)]
-#[derive(Drop)]
+#[derive(Clone, Copy)]
 pub struct MoorAdded {
     pub number: u8,
     pub place: usize,
@@ -66,7 +66,7 @@ pub struct MoorAdded {
 // What a poll gives: what was answered, by whom, how long the answer is, and how many FF it begins
 // with. Silence is answer 0.
 #[repr(C)]
-#[derive(Drop)]
+#[derive(Clone, Copy)]
 pub struct MoorPolled {
     pub number: u8,
     pub answer: u8,

@@ -10,7 +10,7 @@ use eventrequests::EventRequest;
 use polls::Polled;
 
 // A request as a line has it.
-#[derive(Drop)]
+#[derive(Clone, Copy)]
 pub(crate) enum RequestRead {
     Request(EventRequest),
     Wrong(Fault),
@@ -38,7 +38,7 @@ pub(crate) fn poll(line: &[u8], at: usize, d: Desk) -> Desk {
 }
 
 // What the devices are asked: a request, or a raw frame.
-#[derive(Drop)]
+#[derive(Clone, Copy)]
 pub(crate) enum Asked {
     Poll(EventRequest),
     Frame,
@@ -55,7 +55,7 @@ pub(crate) fn ask(asked: Asked, frame: &[u8], d: Desk) -> Desk {
 }
 
 // What a poll gave, and the queues that it left.
-#[derive(Drop)]
+#[derive(Clone, Copy)]
 struct After {
     queues: Queues,
     polled: Polled,

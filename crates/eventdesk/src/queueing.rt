@@ -13,7 +13,7 @@ use queues::{MOST_QUEUED, SLOT_LENGTH, SLOTS_LENGTH};
 // ---- a new event
 
 // What a line says of an event before its data: the id of its device, and what it is.
-#[derive(Drop)]
+#[derive(Clone, Copy)]
 struct Head {
     id: u8,
     urgent: bool,
@@ -22,7 +22,7 @@ struct Head {
 }
 
 // A head, and where the data begins, or what was wrong.
-#[derive(Drop)]
+#[derive(Clone, Copy)]
 enum HeadRead {
     Head(Head, usize),
     Wrong(Fault),
@@ -96,7 +96,7 @@ fn add(head: Head, data: &[u8], d: Desk) -> Desk {
 }
 
 // What a new event gave, and the queues that it left.
-#[derive(Drop)]
+#[derive(Clone, Copy)]
 struct After {
     queues: Queues,
     added: Added,

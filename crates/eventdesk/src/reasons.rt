@@ -145,7 +145,7 @@ fn wrong_slot(slots: &[u8], count: u8) -> u8 {
 }
 
 // A text, and the numbers that it is filled with.
-#[derive(Drop)]
+#[derive(Clone, Copy)]
 struct Reason {
     text: u8,
     numbers: Numbers,

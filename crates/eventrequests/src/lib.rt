@@ -16,7 +16,7 @@ use refusal::{Refusal, Written};
 
 // What a client asks of all devices: the smallest id that may answer, the most bytes of events, and
 // the packet that it confirms, by its sender's id and its flag.
-#[derive(Drop)]
+#[derive(Clone, Copy)]
 pub struct EventRequest {
     pub minimum: u8,
     pub most: u8,
@@ -25,7 +25,7 @@ pub struct EventRequest {
 }
 
 // What the reader of requests finds.
-#[derive(Drop)]
+#[derive(Clone, Copy)]
 pub enum EventRequestRead {
     Asked(EventRequest),
     Refused(Refusal),

@@ -13,7 +13,7 @@ pub const LARGEST_ID: u8 = 247;
 
 // One event: its kind and its identifier, where its data starts in the input and how long that is, and
 // the position behind it.
-#[derive(Drop)]
+#[derive(Clone, Copy)]
 pub enum EventRead {
     Whole {
         kind: u8,
@@ -26,7 +26,7 @@ pub enum EventRead {
 }
 
 // How many events bytes are from end to end.
-#[derive(Drop)]
+#[derive(Clone, Copy)]
 pub enum Listing {
     Even(usize),
     Uneven,

@@ -2,4 +2,3 @@
 // definitions that each call's promise equals. The statement is specs/Sequence.antt, its proof
 // proofs/Kept.antt; specs/Fresh.antt says where a site begins. There is no code here.
 #![tactic(auto)]
-

@@ -28,7 +28,7 @@ pub const LIMIT: usize = 0x80000000;
 
 // What a recorded exchange is: its kind, the attempts at command and reply, and the raw bytes read,
 // SYN included; or why it is refused.
-#[derive(Drop)]
+#[derive(Clone, Copy)]
 pub enum Judged {
     Accepted(ExchangeKind, u8, u8, usize),
     Refused(Refusal),
@@ -36,7 +36,7 @@ pub enum Judged {
 
 // Behind an accepted command: how many bytes the attempts at the reply have, where the second starts,
 // and the verdict.
-#[derive(Drop)]
+#[derive(Clone, Copy)]
 struct Replies {
     pub len1: usize,
     pub second: usize,

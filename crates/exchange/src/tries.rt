@@ -15,7 +15,7 @@ use attempts::{Standing, attempt_at};
 use refusal::{COMMAND_NACKED, REPLY_NACKED, Refusal};
 
 // How many attempts there were until one was taken.
-#[derive(Drop)]
+#[derive(Clone, Copy)]
 pub(crate) enum Tried {
     Once,
     Twice,
@@ -24,7 +24,7 @@ pub(crate) enum Tried {
 
 // One attempt or two: how many bytes they have, where the second starts, and the position behind the
 // last; or the refusal.
-#[derive(Drop)]
+#[derive(Clone, Copy)]
 pub(crate) struct Tries {
     pub len1: usize,
     pub second: usize,

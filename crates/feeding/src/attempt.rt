@@ -24,7 +24,7 @@ use listening::{
 use refusal::{BUS_ERROR, COMMAND_NACKED, REPLY_NACKED, RUN_ENDED, Refusal};
 
 // What a decision makes of the marks, and how many bytes it used; or it is open, and all are in hand.
-#[derive(Drop)]
+#[derive(Clone, Copy)]
 pub(crate) struct Step {
     pub marks: Marks,
     pub used: usize,

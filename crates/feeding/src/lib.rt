@@ -26,7 +26,7 @@ use lists::{put, smaller};
 const JOINED: usize = 64;
 
 // What a run leaves: the marks, how many bytes are in hand, and how many of the run were used.
-#[derive(Drop)]
+#[derive(Clone, Copy)]
 struct Left {
     pub marks: Marks,
     pub held: u8,

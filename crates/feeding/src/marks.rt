@@ -5,7 +5,7 @@ ghost use Rattle.feeding.specs.Inner.{marks_of, state_with, answers_on};
 use listening::{HAND_ROOM, KEPT_ROOM, Listening, NOTHING_DUE};
 
 // The numbers of a state with nothing in hand.
-#[derive(Drop)]
+#[derive(Clone, Copy)]
 pub(crate) struct Marks {
     pub start: usize,
     pub place: usize,

@@ -48,7 +48,7 @@ pub const END_LENGTH: usize = 5;
 pub const SERIAL_LIMIT: u32 = 0x1000_0000;
 
 // What the head check finds: the subcommand of a frame that is whole and right, or the refusal.
-#[derive(Drop)]
+#[derive(Clone, Copy)]
 pub enum Head {
     Framed(u8),
     Wrong(Refusal),

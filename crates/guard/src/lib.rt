@@ -7,7 +7,7 @@ ghost use Rattle.guard.specs.Guard.{guard};
 use refusal::{OUTPUT_SHORT, Refusal, TABLE_NOT_VALID};
 
 // What the guard finds.
-#[derive(Drop)]
+#[derive(Clone, Copy)]
 pub enum Guard {
     Passed,
     Refused(Refusal),

@@ -11,7 +11,7 @@ use listening::{Fed, Listening};
 
 // The answer as the judge gives it, and the state afterwards.
 #[repr(C)]
-#[derive(Drop)]
+#[derive(Clone, Copy)]
 pub struct MoorClosed {
     pub judged: MoorJudged,
     pub state: Listening,

@@ -41,7 +41,7 @@ pub const KEPT_ROOM: usize = 58;
 // of the answer, once it is known; what is due next; how many raw bytes are in hand; the attempts; and
 // how many bytes of `kept` the accepted command has, and each attempt at the reply.
 #[repr(C)]
-#[derive(Drop)]
+#[derive(Clone, Copy)]
 pub struct Listening {
     pub start: usize,
     pub place: usize,
@@ -59,7 +59,7 @@ pub struct Listening {
 
 // What a run made of a state, and how many of its bytes were used.
 #[repr(C)]
-#[derive(Drop)]
+#[derive(Clone, Copy)]
 pub struct Fed {
     pub state: Listening,
     pub used: usize,

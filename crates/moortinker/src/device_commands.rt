@@ -18,7 +18,7 @@ const MOST_MARK: u64 = 255;
 // ---- the table
 
 // A row as a line has it.
-#[derive(Drop)]
+#[derive(Clone, Copy)]
 enum RowRead {
     Row { serial: u32, address: u8, mark: u8 },
     Wrong(Fault),
@@ -131,7 +131,7 @@ fn say_marked(serial: u32, address: u8, mark: u8, page: Page) -> Page {
 // ---- requests
 
 // What the devices are asked: a request, or a raw frame.
-#[derive(Drop)]
+#[derive(Clone, Copy)]
 pub(crate) enum Asked {
     Start,
     Continue,
@@ -207,7 +207,7 @@ pub(crate) fn scan(line: &[u8], at: usize, d: Desk) -> Desk {
 }
 
 // The table that a scan left, and the page with what it said.
-#[derive(Drop)]
+#[derive(Clone, Copy)]
 struct AfterScan {
     table: Table,
     page: Page,
@@ -236,7 +236,7 @@ fn scanned(cap: usize, table: Table, room: usize, page: Page) -> AfterScan {
 
 // How a scan ended: the text for it, with how many requests were sent, how many FF stood before its
 // answers and how many devices were heard.
-#[derive(Drop)]
+#[derive(Clone, Copy)]
 struct Ending {
     text: u8,
     requests: usize,

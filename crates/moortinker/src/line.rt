@@ -6,7 +6,7 @@ ghost use Rattle.std.specs.Prelude.{◌≤◌, length};
 
 use libc::STDIN_FILENO;
 
-#[derive(Drop)]
+#[derive(Clone, Copy)]
 pub(crate) struct Window {
     // The bytes of the input buffer from `from` to `to` are still to be obeyed.
     pub(crate) from: usize,

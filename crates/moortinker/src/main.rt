@@ -17,7 +17,7 @@ use desk::{say, state, word};
 use line::Window;
 
 // What the loop over lines carries. `over` says that there is no more to do.
-#[derive(Drop)]
+#[derive(Clone, Copy)]
 struct State {
     window: Window,
     desk: Desk,

@@ -17,7 +17,7 @@ use queues::{MOST_DATA, MOST_QUEUED, SLOTS_LENGTH, device_of, valid_queues};
 use refusal::{FRAME_LENGTH, QUEUE_FULL, Refusal, TABLE_NOT_VALID};
 
 // What a new event gives.
-#[derive(Drop)]
+#[derive(Clone, Copy)]
 pub enum Added {
     Done,
     Refused(Refusal),

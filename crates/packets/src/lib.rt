@@ -30,7 +30,7 @@ pub const NO_EVENTS: u8 = 0x12;
 // What the reader of events finds, with how many FF it passed over: a packet, with how many events are
 // queued and how many it lists, where the first of those stands in the input, and how many bytes they
 // have; or that nobody has any.
-#[derive(Drop)]
+#[derive(Clone, Copy)]
 pub enum EventsRead {
     Packet {
         skipped: usize,

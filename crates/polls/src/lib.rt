@@ -24,7 +24,7 @@ pub const POLL_ROOM: usize = 116;
 
 // What a poll gives: how many FF the answer at the start of the buffer begins with, how many bytes it
 // has and who sent it, of a packet with its flag and how many events it lists; silence; or the refusal.
-#[derive(Drop)]
+#[derive(Clone, Copy)]
 pub enum Polled {
     Packet {
         skipped: usize,

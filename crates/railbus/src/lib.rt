@@ -54,7 +54,7 @@ pub const LONG_LENGTH: usize = 17;
 const CHECKED_FROM: usize = 0;
 
 // What a packet says that carries no data: R, S, N.
-#[derive(Drop)]
+#[derive(Clone, Copy)]
 pub enum Short {
     ReadRequest,
     Sync,
@@ -62,7 +62,7 @@ pub enum Short {
 }
 
 // What a packet says that carries data: W, K, I, n.
-#[derive(Drop)]
+#[derive(Clone, Copy)]
 pub enum Long {
     WriteRequest,
     ReadAcknowledge,
@@ -71,13 +71,13 @@ pub enum Long {
 }
 
 // What a packet says, with its data where it has any.
-#[derive(Drop)]
+#[derive(Clone, Copy)]
 pub enum Message {
     Bare(Short),
     With(Long, u32),
 }
 
-#[derive(Drop)]
+#[derive(Clone, Copy)]
 pub struct Packet {
     pub address: u8,
     pub register: u8,
@@ -85,7 +85,7 @@ pub struct Packet {
 }
 
 // What the reader finds: a packet, and whether its checksum was examined.
-#[derive(Drop)]
+#[derive(Clone, Copy)]
 pub enum PacketRead {
     Found(Packet, bool),
     Refused(Refusal),

@@ -21,7 +21,7 @@ use relay::{Relayed, Remembered, Reply};
 
 // A packet that was read: its letter and numbers, and whether its checksum was examined.
 #[repr(C)]
-#[derive(Drop)]
+#[derive(Clone, Copy)]
 pub struct MoorRailbusRead {
     pub number: u8,
     pub letter: u8,
@@ -34,7 +34,7 @@ pub struct MoorRailbusRead {
 
 // The write that a device remembers.
 #[repr(C)]
-#[derive(Drop)]
+#[derive(Clone, Copy)]
 pub struct MoorRemembered {
     pub phase: u8,
     pub reg: u8,
@@ -44,7 +44,7 @@ pub struct MoorRemembered {
 // What a relay device gives: what it remembers from now on, and how long its answer is, 0 where there
 // is none.
 #[repr(C)]
-#[derive(Drop)]
+#[derive(Clone, Copy)]
 pub struct MoorRelayed {
     pub number: u8,
     pub write: MoorRemembered,

@@ -61,7 +61,7 @@ pub(crate) fn call(finishing: bool, packet: &[u8], d: Desk) -> Desk {
 }
 
 // What a call gave, and the device that it left.
-#[derive(Drop)]
+#[derive(Clone, Copy)]
 struct After {
     device: Relay,
     reply: Reply,

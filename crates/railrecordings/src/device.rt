@@ -11,7 +11,7 @@ use tally::{Tally, none};
 const ADDRESS: u8 = 0x93;
 
 // A device, and what it gave last.
-#[derive(Drop)]
+#[derive(Clone, Copy)]
 pub(crate) struct Device {
     registers: [u32; REGISTERS],
     access: [u8; REGISTERS],

@@ -45,7 +45,7 @@ n111 n211 n623 N650 n667 *600 K624 K630 N650 n677 n05@ -600 -600 -600 -600 -600"
 }
 
 // A device, the table's line for what it remembers, and whether all was right so far.
-#[derive(Drop)]
+#[derive(Clone, Copy)]
 struct Run {
     device: Device,
     line: usize,

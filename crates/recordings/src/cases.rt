@@ -3,7 +3,7 @@ use crate::{checks, escaping, exchanges};
 use tally::{Tally, none};
 
 // What the lines of a group are.
-#[derive(Drop)]
+#[derive(Clone, Copy)]
 pub(crate) enum Lines {
     EbusChecks,
     ModbusChecks,
@@ -13,7 +13,7 @@ pub(crate) enum Lines {
 }
 
 // Whether a line's case gives what it must, and where the next line begins.
-#[derive(Drop)]
+#[derive(Clone, Copy)]
 pub(crate) struct Checked {
     pub(crate) right: bool,
     pub(crate) next: usize,

@@ -28,7 +28,7 @@ fn number_of(kind: ExchangeKind) -> u8 {
 
 // What is due for a run: 0 with the kind, the attempts and how many bytes are read where it is
 // accepted, or the number and place of its refusal.
-#[derive(Drop)]
+#[derive(Clone, Copy)]
 pub(crate) struct Answer {
     number: u8,
     kind: u8,
@@ -297,7 +297,7 @@ pub(crate) fn prefixes() -> Tally {
 }
 
 // What is due for a run that is W7 with one byte changed: 0 is its acceptance.
-#[derive(Drop)]
+#[derive(Clone, Copy)]
 struct Expected {
     number: u8,
     place: usize,

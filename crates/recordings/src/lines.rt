@@ -1,7 +1,7 @@
 // Lines of text that hold bytes in hexadecimal and numbers in decimal, two digits each.
 
 // How many there were, the character that ended them, and what stands behind it.
-#[derive(Drop)]
+#[derive(Clone, Copy)]
 pub(crate) struct Field {
     pub(crate) n: usize,
     pub(crate) mark: u8,

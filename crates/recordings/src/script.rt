@@ -28,7 +28,7 @@ const MARKS: [u8; ROWS] = [0, 0];
 const LONGEST: usize = 128;
 
 // The devices, how many bytes of an answer buffer are lent, and how many FF stand before what is read.
-#[derive(Drop)]
+#[derive(Clone, Copy)]
 struct Bus {
     room: usize,
     fill: usize,
@@ -41,7 +41,7 @@ struct Bus {
 
 // What a call gave: its number, 0 where it is accepted, with its place, how many FF were passed over,
 // and bytes that say what it gave, so many.
-#[derive(Drop)]
+#[derive(Clone, Copy)]
 struct Given {
     number: u8,
     place: usize,
@@ -51,7 +51,7 @@ struct Given {
 }
 
 // What a line gave and left, and where the next begins.
-#[derive(Drop)]
+#[derive(Clone, Copy)]
 struct Step {
     bus: Bus,
     right: bool,
@@ -197,7 +197,7 @@ fn read_behind(fill: usize, what: u8, bytes: &[u8]) -> Given {
 // ---- devices
 
 // The devices that a line left, and what it gave.
-#[derive(Drop)]
+#[derive(Clone, Copy)]
 struct Did {
     bus: Bus,
     given: Given,

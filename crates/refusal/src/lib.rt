@@ -4,7 +4,6 @@
 // takes its numbers from here, so a new number is a new line here and changes no `match`.
 #![tactic(auto)]
 
-
 // What was lent for output has too little room.
 pub const OUTPUT_SHORT: u8 = 1;
 // The device table is not valid.
@@ -47,14 +46,14 @@ pub const FILL_OVER: u8 = 19;
 pub const DIGIT_WRONG: u8 = 26;
 
 // A refusal: the number, and the offset of the raw byte named, 0 where none is named.
-#[derive(Drop)]
+#[derive(Clone, Copy)]
 pub struct Refusal {
     pub place: usize,
     pub number: u8,
 }
 
 // What a writer answers: how many bytes it wrote at the start of the lent output, or the refusal.
-#[derive(Drop)]
+#[derive(Clone, Copy)]
 pub enum Written {
     Length(usize),
     Refused(Refusal),

@@ -26,7 +26,7 @@ pub const REGISTERS: usize = 256;
 pub const RELAY_ROOM: usize = 17;
 
 // The write that a device remembers: none, or one with its register and data.
-#[derive(Drop)]
+#[derive(Clone, Copy)]
 pub enum Remembered {
     Idle,
     Running(u8, u32),
@@ -34,14 +34,14 @@ pub enum Remembered {
 }
 
 // What a device says.
-#[derive(Drop)]
+#[derive(Clone, Copy)]
 pub enum Said {
     Nothing,
     Says(Message),
 }
 
 // .. and what it remembers from then on.
-#[derive(Drop)]
+#[derive(Clone, Copy)]
 pub struct Response {
     pub said: Said,
     pub write: Remembered,
@@ -49,7 +49,7 @@ pub struct Response {
 
 // What a call answers: how many characters the answer at the start of the buffer has, that there is
 // none, or the refusal.
-#[derive(Drop)]
+#[derive(Clone, Copy)]
 pub enum Reply {
     Answer(usize),
     NoAnswer,
@@ -57,7 +57,7 @@ pub enum Reply {
 }
 
 // .. and the write that the device remembers from then on.
-#[derive(Drop)]
+#[derive(Clone, Copy)]
 pub struct Relayed {
     pub reply: Reply,
     pub write: Remembered,

@@ -15,14 +15,14 @@ use framing::{BROADCAST, CONTINUE, EXTENDED, Head, START, head_at, write_closed}
 use refusal::{Refusal, Written};
 
 // What a client asks of the devices.
-#[derive(Drop)]
+#[derive(Clone, Copy)]
 pub enum Request {
     Start,
     Continue,
 }
 
 // What the request reader finds.
-#[derive(Drop)]
+#[derive(Clone, Copy)]
 pub enum RequestRead {
     Asked(Request),
     Refused(Refusal),

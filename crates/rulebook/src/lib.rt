@@ -2,4 +2,3 @@
 // the eBUS wire, and demand 2 as one claim over it and the frames. The statements are in specs/, the
 // theorems in proofs/, and so are those of a longer run, which no function needs. There is no code here.
 #![tactic(auto)]
-

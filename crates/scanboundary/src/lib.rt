@@ -32,7 +32,7 @@ const UNFINISHED: u8 = 3;
 
 // A request that was read: start or continue.
 #[repr(C)]
-#[derive(Drop)]
+#[derive(Clone, Copy)]
 pub struct MoorRequestRead {
     pub number: u8,
     pub request: u8,
@@ -42,7 +42,7 @@ pub struct MoorRequestRead {
 // An answer that was read: a device found with serial and address, or the end, and how many FF were
 // passed over.
 #[repr(C)]
-#[derive(Drop)]
+#[derive(Clone, Copy)]
 pub struct MoorAnswerRead {
     pub number: u8,
     pub answer: u8,
@@ -54,7 +54,7 @@ pub struct MoorAnswerRead {
 
 // The key that remains, and how many windows were dominant.
 #[repr(C)]
-#[derive(Drop)]
+#[derive(Clone, Copy)]
 pub struct MoorDecided {
     pub key: u32,
     pub dominant: usize,
@@ -63,7 +63,7 @@ pub struct MoorDecided {
 // A whole scan: how it ended, the requests sent, how many devices were heard, and how many FF stood
 // before its answers.
 #[repr(C)]
-#[derive(Drop)]
+#[derive(Clone, Copy)]
 pub struct MoorScanned {
     pub number: u8,
     pub end: u8,

@@ -2,4 +2,3 @@
 // promise equals. The statement is specs/Sequence.antt, its proof proofs/Demand3.antt. There is no
 // code here.
 #![tactic(auto)]
-

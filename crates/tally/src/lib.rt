@@ -9,7 +9,7 @@ use libc::STDOUT_FILENO;
 // A group that is counted past this stays there; no group here comes near it.
 const LIMIT: u32 = 1000000;
 
-#[derive(Drop)]
+#[derive(Clone, Copy)]
 pub struct Tally {
     run: u32,
     right: u32,

@@ -33,7 +33,7 @@ pub const COMMAND_ROOM: usize = 22;
 pub const REPLY_ROOM: usize = 18;
 
 // The fields of a telegram that are judged, and all other bytes.
-#[derive(Drop)]
+#[derive(Clone, Copy)]
 enum Field {
     Source,
     Destination,
@@ -44,7 +44,7 @@ enum Field {
 // How far a telegram was read: how many bytes, the last of them, its place, and the position behind
 // it; or why it can't be read. A flag and the refusal stand beside each other: an enum that holds a
 // refusal is put together in memory at every return.
-#[derive(Drop)]
+#[derive(Clone, Copy)]
 pub struct Extent {
     pub len: usize,
     pub value: u8,
@@ -56,7 +56,7 @@ pub struct Extent {
 
 // A telegram by value: the first len of its bytes, the place of the last of them, and the position
 // behind it.
-#[derive(Drop)]
+#[derive(Clone, Copy)]
 pub struct Telegram {
     pub bytes: [u8; COMMAND_ROOM],
     pub len: usize,

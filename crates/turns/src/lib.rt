@@ -4,13 +4,12 @@
 // the crate above.
 #![tactic(auto)]
 
-
 // A contest has so many windows: one for each bit of a key.
 pub const WINDOWS: u32 = 32;
 
 // What the devices put on the bus for a request: one FF for each dominant window, then the frame of
 // a device found or of the end.
-#[derive(Drop)]
+#[derive(Clone, Copy)]
 pub enum Answer {
     Silence,
     Found {
