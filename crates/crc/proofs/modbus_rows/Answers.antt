@@ -3,12 +3,8 @@
 use mathlib.Core.Path.{refl}
 use Rattle.crc.specs.BitByBit.{modbus_one, modbus_times}
 use Rattle.crc.proofs.Table.{tested}
-use Rattle.crc.proofs.modbus_rows.Statement.{statement}
-use Rattle.crc.proofs.modbus_rows.Tie as tie
+use Rattle.crc.proofs.modbus_rows.Goals as goal
 
-returns : tie.Need-returns
+pub returns : goal.returns
 unfolding modbus_times modbus_one
 returns c = record { one = tested (modbus_times 8) _ refl tt; two = tested (modbus_times 16) _ refl tt }
-
-pub modbus_rows_spec : {M : Type 1} → statement M
-modbus_rows_spec = tie.close (tie.spec returns)
