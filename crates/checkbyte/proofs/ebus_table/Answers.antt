@@ -5,12 +5,8 @@ use Prim.Native.Nat.{ℕ}
 use lib.ListN.{replicate}
 use Rattle.crc.proofs.Table.{tested}
 use Rattle.checkbyte.specs.BitByBit.{ebus_in, ebus_all}
-use Rattle.checkbyte.proofs.ebus_table.Statement.{statement}
-use Rattle.checkbyte.proofs.ebus_table.Tie as tie
+use Rattle.checkbyte.proofs.ebus_table.Goals as goal
 
-returns : tie.Need-returns
+pub returns : goal.returns
 unfolding ebus_all ebus_in
 returns c = tested (λ (k : ℕ). ebus_all k (replicate 8 0)) _ refl tt
-
-pub ebus_table_spec : {M : Type 1} → statement M
-ebus_table_spec = tie.close (tie.spec returns)

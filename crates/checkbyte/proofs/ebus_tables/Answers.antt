@@ -5,13 +5,9 @@ use Prim.Native.Nat.{ℕ}
 use lib.ListN.{replicate}
 use Rattle.crc.proofs.Table.{tested}
 use Rattle.checkbyte.specs.BitByBit.{ebus_in, ebus_all}
-use Rattle.checkbyte.proofs.ebus_tables.Statement.{statement}
-use Rattle.checkbyte.proofs.ebus_tables.Tie as tie
+use Rattle.checkbyte.proofs.ebus_tables.Goals as goal
 
-returns : tie.Need-returns
+pub returns : goal.returns
 unfolding ebus_all ebus_in
 returns c =
     record { one = tested (λ (k : ℕ). ebus_all k (replicate 8 0)) _ refl tt; two = tested (λ (k : ℕ). ebus_all k (replicate 16 0)) _ refl tt }
-
-pub ebus_tables_spec : {M : Type 1} → statement M
-ebus_tables_spec = tie.close (tie.spec returns)
