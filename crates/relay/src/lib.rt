@@ -81,7 +81,7 @@ fn access_right(access: &[u8]) -> bool
 
 // Whether registers and access bytes are those of a device: what number 2 asks.
 pub fn valid_relay(registers: &[u32], access: &[u8]) -> bool
-    ensures { result ≡ valid_relay (record { registers = registers.entry.now; access = access.now }) }
+    ensures { result ≡ valid_relay (record { registers = registers.now; access = access.now }) }
 {
     if registers.len() != REGISTERS {
         return false;
@@ -134,7 +134,7 @@ fn respond(
     answer: &mut [u8],
 ) -> Relayed
     requires { (relay_room ≤ length answer.old) × (length registers.now ≡ register_count) × (length access.now ≡ register_count) }
-    ensures { Relays relayed (responded address packet.register (on_packet address packet (record { registers = registers.entry.now; access = access.now }) write) answer.old registers.entry.now) result answer.new registers.entry.now }
+    ensures { Relays relayed (responded address packet.register (on_packet address packet (record { registers = registers.now; access = access.now }) write) answer.old registers.now) result answer.new registers.now }
 {
     if packet.address != address {
         return Relayed {
@@ -163,7 +163,7 @@ pub fn offer(
     write: Remembered,
     answer: &mut [u8],
 ) -> Relayed
-    ensures { Relays relayed (offer_call address input.now answer.old (record { registers = registers.entry.now; access = access.now }) write) result answer.new registers.entry.now }
+    ensures { Relays relayed (offer_call address input.now answer.old (record { registers = registers.now; access = access.now }) write) result answer.new registers.now }
 {
     let ok = valid_relay(registers, access);
     let admitted = guard::admit(RELAY_ROOM, answer.len(), ok);
@@ -189,7 +189,7 @@ pub fn finish(
     write: Remembered,
     answer: &mut [u8],
 ) -> Relayed
-    ensures { Relays relayed (finish_call address answer.old (record { registers = registers.entry.now; access = access.now }) write) result answer.new registers.exit.now }
+    ensures { Relays relayed (finish_call address answer.old (record { registers = registers.old; access = access.now }) write) result answer.new registers.new }
 {
     let ok = valid_relay(registers, access);
     let admitted = guard::admit(RELAY_ROOM, answer.len(), ok);
