@@ -44,7 +44,7 @@ pub loop-left-smaller : goal.loop-left-smaller
 loop-left-smaller c = omega arith
 
 pub loop-left-preserved : goal.loop-left-preserved
-loop-left-preserved c = (omega arith, slot_passes c.args.slots.now c.loop-left.at c.loop-left.left c.loop-left-test.true (omega (arith, c.if-slots-at-gt1.false)) (omega (arith, c.if-slots-at-gt-MOST_DATA.false)) ∙ c.loop-left.invariant.1)
+loop-left-preserved c = (omega arith, slot_passes c.args.slots.now c.loop-left.at c.loop-left.left c.loop-left-test.true (omega arith) (omega arith) ∙ c.loop-left.invariant.1)
 
 pub returns : goal.returns
 unfolding slots_right
