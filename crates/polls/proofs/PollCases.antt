@@ -150,8 +150,8 @@ module _ (request : EventRequest) (t : Table) (q after : Queues) (is_after : aft
   contest_keeps : (place : ℕ) (heard : Heard) (k : Queues)
       → ((queues_after place heard k).flags ≡ k.flags) × ((queues_after place heard k).counts ≡ k.counts) × ((queues_after place heard k).slots ≡ k.slots)
   contest_keeps place silence k = (refl, refl, refl)
-  contest_keeps place (nothing dominant id) k = (refl, refl, refl)
-  contest_keeps place (packet dominant id flag queued events) k = (refl, refl, refl)
+  contest_keeps place (nothing dominant _) k = (refl, refl, refl)
+  contest_keeps place (packet dominant _ flag queued events) k = (refl, refl, refl)
 
   pub gives_poll : (r : Polled) (buffer lasts : List ℕ) → GivesHeard request t after old r buffer lasts
       → GivesPoll itself (polling request old t q) r buffer after.flags lasts after.counts after.slots
