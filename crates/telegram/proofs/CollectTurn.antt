@@ -49,7 +49,7 @@ none_due command run n so_far last at h =
 
 -- ---- the loop's invariant
 
--- what is due from the start, behind soFar₀, is what is due from here: left bytes behind len bytes, of which the last is value
+-- what is due from the start, behind so_far₀, is what is due from here: left bytes behind len bytes, of which the last is value
 pub record Reaches (command : Bool) (run : List ℕ) (n : ℕ) (so_far₀ : List ℕ) (last₀ at₀ left len value last at : ℕ) : Type 0 where
   pub so_far : List ℕ
   pub size : length so_far ≡ len

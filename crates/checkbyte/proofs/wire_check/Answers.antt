@@ -37,8 +37,8 @@ overflow_cast-running-in-loop-second c =
     let l = c.loop-second in
     let raw = c.args.raw.now in
     let tables = c.args.tables.now in
-    let first : get_or tables (get_or raw (l.second - 1) 0) 0 < 256 = omega (arith, c.shared_slice_known-in-loop-second-1.given (get_or raw (l.second - 1) 0)) in
-    let second : get_or raw l.second 0 < 256 = omega (arith, c.shared_slice_known-1.given l.second) in
+    let first : get_or tables (get_or raw (l.second - 1) 0) 0 < 256 = omega (arith, c.type_inv.entries (get_or raw (l.second - 1) 0)) in
+    let second : get_or raw l.second 0 < 256 = omega (arith, c.type_inv.raw l.second) in
     omega (arith, xor_lt 8 (get_or tables (get_or raw (l.second - 1) 0) 0) (get_or raw l.second 0) first second)
 
 pub overflow_add-running : goal.overflow_add-running
@@ -46,8 +46,8 @@ overflow_add-running c =
     let l = c.loop-second in
     let raw = c.args.raw.now in
     let tables = c.args.tables.now in
-    let first : get_or tables (get_or raw (l.second - 1) 0) 0 < 256 = omega (arith, c.shared_slice_known-in-loop-second-1.given (get_or raw (l.second - 1) 0)) in
-    let second : get_or raw l.second 0 < 256 = omega (arith, c.shared_slice_known-1.given l.second) in
+    let first : get_or tables (get_or raw (l.second - 1) 0) 0 < 256 = omega (arith, c.type_inv.entries (get_or raw (l.second - 1) 0)) in
+    let second : get_or raw l.second 0 < 256 = omega (arith, c.type_inv.raw l.second) in
     omega (arith, xor_lt 8 (get_or tables (get_or raw (l.second - 1) 0) 0) (get_or raw l.second 0) first second)
 
 pub overflow_add-second : goal.overflow_add-second
@@ -65,8 +65,8 @@ loop-second-preserved c =
     let r = l.running - 256 in
     let a = get_or raw i 0 in
     let b = get_or raw l.second 0 in
-    let hb : b < 256 = omega (arith, c.shared_slice_known-1.given l.second) in
-    let first : get_or tables a 0 < 256 = omega (arith, c.shared_slice_known-in-loop-second-1.given a) in
+    let hb : b < 256 = omega (arith, c.type_inv.raw l.second) in
+    let first : get_or tables a 0 < 256 = omega (arith, c.type_inv.entries a) in
     let x = get_or tables l.running 0 in
     let hx : x < 256 = omega (arith, c.type_inv.entries l.running) in
     let y = bit_xor (get_or tables a 0) b in

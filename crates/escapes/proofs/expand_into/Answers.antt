@@ -15,15 +15,16 @@ use Rattle.escapes.proofs.expand_into.Goals.{in_default-via-else-byte-lt169+else
 two : (c : goal.In-169) → StoredTwo c.args.logical.now c.args.out.now c.loop-i.out c.loop-i.n c.loop-i.i c.requires c.loop-i-test.true c.loop-i.invariant.1
 two c =
     let b = get_or c.args.logical.now c.loop-i.i 0 in
-    let high : b ≤ syn = omega (arith, c.in-169.if-byte-lt171-own.true) in
+    let low : esc ≤ b = omega arith in
+    let high : b ≤ syn = omega arith in
     stored_two c.args.logical.now c.args.out.now c.loop-i.out c.loop-i.n c.loop-i.i c.requires c.loop-i-test.true c.loop-i.invariant.1
-    (special b c.in-169.if-byte-lt169-own.false high)
+    (special b low high)
 
 one : (c : goal.In_default) → Stored c.args.logical.now c.args.out.now c.loop-i.out c.loop-i.n c.loop-i.i c.requires c.loop-i-test.true c.loop-i.invariant.1
 one c =
     let b = get_or c.args.logical.now c.loop-i.i 0 in
-    let no-esc : b ≡ esc → ⊥ = λ e. elim c.in_default.branch [ in_default-via-then-byte-lt169 w ↦ omega (arith, w.if-byte-lt169-1.true) | in_default-via-else-byte-lt169+else-byte-lt171 w ↦ omega (arith, w.if-byte-lt171-1.false) ] in
-    let no-syn : b ≡ syn → ⊥ = λ e. elim c.in_default.branch [ in_default-via-then-byte-lt169 w ↦ omega (arith, w.if-byte-lt169-1.true) | in_default-via-else-byte-lt169+else-byte-lt171 w ↦ omega (arith, w.if-byte-lt171-1.false) ] in
+    let no-esc : b ≡ esc → ⊥ = λ e. elim c.in_default.branch [ in_default-via-then-byte-lt169 w ↦ omega arith | in_default-via-else-byte-lt169+else-byte-lt171 w ↦ omega arith ] in
+    let no-syn : b ≡ syn → ⊥ = λ e. elim c.in_default.branch [ in_default-via-then-byte-lt169 w ↦ omega arith | in_default-via-else-byte-lt169+else-byte-lt171 w ↦ omega arith ] in
     stored c.args.logical.now c.args.out.now c.loop-i.out c.loop-i.n c.loop-i.i c.requires c.loop-i-test.true c.loop-i.invariant.1 no-esc no-syn
 
 pub loop-i-init : goal.loop-i-init

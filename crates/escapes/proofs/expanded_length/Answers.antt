@@ -27,8 +27,9 @@ pub loop-i-preserved-then-byte-lt171 : goal.loop-i-preserved-then-byte-lt171
 loop-i-preserved-then-byte-lt171 c =
     let logical = c.args.logical.now in
     let i = c.loop-i.i in
-    let high : get_or logical i 0 ≤ syn = omega (arith, c.in-169.if-byte-lt171-own.true) in
-    let next = expanded_special logical i c.loop-i-test.true (special (get_or logical i 0) c.in-169.if-byte-lt169-own.false high) in
+    let low : esc ≤ get_or logical i 0 = omega arith in
+    let high : get_or logical i 0 ≤ syn = omega arith in
+    let next = expanded_special logical i c.loop-i-test.true (special (get_or logical i 0) low high) in
     (omega arith, omega arith, omega (arith, ap length next))
 
 pub overflow_add-n-in_default : goal.overflow_add-n-in_default
@@ -42,8 +43,8 @@ loop-i-preserved c =
     let logical = c.args.logical.now in
     let i = c.loop-i.i in
     let b = get_or logical i 0 in
-    let no-esc : b ≡ esc → ⊥ = λ e. elim c.in_default.branch [ in_default-via-then-byte-lt169 w ↦ omega (arith, w.if-byte-lt169-1.true) | in_default-via-else-byte-lt169+else-byte-lt171 w ↦ omega (arith, w.if-byte-lt171-1.false) ] in
-    let no-syn : b ≡ syn → ⊥ = λ e. elim c.in_default.branch [ in_default-via-then-byte-lt169 w ↦ omega (arith, w.if-byte-lt169-1.true) | in_default-via-else-byte-lt169+else-byte-lt171 w ↦ omega (arith, w.if-byte-lt171-1.false) ] in
+    let no-esc : b ≡ esc → ⊥ = λ e. elim c.in_default.branch [ in_default-via-then-byte-lt169 w ↦ omega arith | in_default-via-else-byte-lt169+else-byte-lt171 w ↦ omega arith ] in
+    let no-syn : b ≡ syn → ⊥ = λ e. elim c.in_default.branch [ in_default-via-then-byte-lt169 w ↦ omega arith | in_default-via-else-byte-lt169+else-byte-lt171 w ↦ omega arith ] in
     let next = expanded_plain logical i c.loop-i-test.true no-esc no-syn in
     (omega arith, omega arith, omega (arith, ap length next))
 

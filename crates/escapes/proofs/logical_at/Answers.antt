@@ -1,6 +1,12 @@
 -- `escapes::logical_at` meets its contract: each answer is picked by the tests that led there.
 -- Assumes nothing.
-use borrow.Author.Tests.{lt-ltb, le-ltb, ne_eqb}
+use mathlib.Core.Path.{◌≡◌}
+use mathlib.Core.Bool.{false}
+use lib.Dec.{eqb}
+use lib.ListN.{get_or}
+use borrow.Author.Rules.{rules}
+use borrow.Author.Tests.{lt-ltb, le-ltb}
+use Rattle.escapes.specs.Escape.{esc, syn}
 use Rattle.escapes.specs.Logical.{logical_at}
 use Rattle.escapes.proofs.logical_at.Goals as goal
 
@@ -18,4 +24,7 @@ returns-in-170 c = simp (lt-ltb _ _ c.if-end-at.false, c.in-170.is) c.no_byte-in
 
 pub returns-in_default : goal.returns-in_default
 unfolding logical_at
-returns-in_default c = simp (lt-ltb _ _ c.if-end-at.false, ne_eqb _ _ c.in_default.in_default-own.rest.0.1, ne_eqb _ _ c.in_default.in_default-own.rest.1)
+returns-in_default c =
+    let no_esc : eqb (get_or c.args.run.now c.args.at 0) esc ≡ false = search rules in
+    let no_syn : eqb (get_or c.args.run.now c.args.at 0) syn ≡ false = search rules in
+    simp (lt-ltb _ _ c.if-end-at.false, no_esc, no_syn)
