@@ -17,6 +17,7 @@ pub enum ExchangeKind {
     InitiatorTarget,
 }
 
+#[tactic(auto, unfolding(crate::specs::Address::initiator_nibble))]
 fn initiator_nibble(n: u8) -> bool
     ensures { result ≡ initiator_nibble n }
 {

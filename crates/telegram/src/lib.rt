@@ -88,6 +88,7 @@ fn head_of(command: bool) -> usize
 }
 
 // Which field the byte at a place of a telegram is.
+#[tactic(auto, unfolding(crate::specs::Telegram::field_at))]
 fn field_at(command: bool, place: usize) -> Field
     ensures { field_of result ≡ field_at command place }
 {
@@ -110,6 +111,7 @@ fn field_at(command: bool, place: usize) -> Field
 }
 
 // What is wrong with the byte of a field, as its number; 0 is nothing.
+#[tactic(auto, unfolding(crate::specs::Telegram::fault_of))]
 fn fault_of(field: Field, b: u8) -> u8
     ensures { result ≡ fault_of (field_of field) b }
 {
