@@ -207,7 +207,7 @@ pub extern "C" fn moor_write_railbus(
 // Whether registers and access bytes are those of a device.
 #[unsafe(no_mangle)]
 pub extern "C" fn moor_relay_valid(registers: &[u32], access: &[u8]) -> bool
-    ensures { result ≡ valid_relay (record { registers = registers.entry.now; access = access.now }) }
+    ensures { result ≡ valid_relay (record { registers = registers.now; access = access.now }) }
 {
     relay::valid_relay(registers, access)
 }
@@ -222,7 +222,7 @@ pub extern "C" fn moor_offer_railbus(
     write: MoorRemembered,
     answer: &mut [u8],
 ) -> MoorRelayed
-    ensures { Relays relayed_for_c (offer_call address packet.now answer.old (record { registers = registers.entry.now; access = access.now }) (remembered_from_c write)) result answer.new registers.entry.now }
+    ensures { Relays relayed_for_c (offer_call address packet.now answer.old (record { registers = registers.now; access = access.now }) (remembered_from_c write)) result answer.new registers.now }
 {
     let remembered = remembered_from_c(write);
     relayed_for_c(relay::offer(address, packet, registers, access, remembered, answer))
@@ -237,7 +237,7 @@ pub extern "C" fn moor_finish_railbus(
     write: MoorRemembered,
     answer: &mut [u8],
 ) -> MoorRelayed
-    ensures { Relays relayed_for_c (finish_call address answer.old (record { registers = registers.entry.now; access = access.now }) (remembered_from_c write)) result answer.new registers.exit.now }
+    ensures { Relays relayed_for_c (finish_call address answer.old (record { registers = registers.old; access = access.now }) (remembered_from_c write)) result answer.new registers.new }
 {
     let remembered = remembered_from_c(write);
     relayed_for_c(relay::finish(address, registers, access, remembered, answer))
