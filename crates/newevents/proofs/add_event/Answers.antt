@@ -20,13 +20,13 @@ overflow_cast-queued c = omega (arith, c.type_inv.counts c.device_of-device.resu
 
 pub returns-then-payload-gt-MOST_DATA : goal.returns-then-payload-gt-MOST_DATA
 returns-then-payload-gt-MOST_DATA c =
-    let long : 8 < length c.args.payload.now = omega (arith, c.if-payload-gt-MOST_DATA.true) in
+    let long : 8 < length c.args.payload.now = omega arith in
     refused_long _ _ _ _ (sym c.valid_queues.ensures ∙ c.if-not-valid_queues.false) c.device_of-device.result c.device_of-device.ensures c.if-device-addresses.false long c.refused-then-payload-gt-MOST_DATA.ensures
 
 pub returns-then-count-ge-MOST_QUEUED : goal.returns-then-count-ge-MOST_QUEUED
 returns-then-count-ge-MOST_QUEUED c =
-    let few : length c.args.payload.now ≤ 8 = omega (arith, c.if-payload-gt-MOST_DATA.false) in
-    let full : 8 ≤ get_or c.args.counts.now c.device_of-device.result 0 = omega (arith, c.if-count-ge-MOST_QUEUED.true) in
+    let few : length c.args.payload.now ≤ 8 = omega arith in
+    let full : 8 ≤ get_or c.args.counts.now c.device_of-device.result 0 = omega arith in
     refused_full _ _ _ _ (sym c.valid_queues.ensures ∙ c.if-not-valid_queues.false) c.device_of-device.result c.device_of-device.ensures c.if-device-addresses.false few full c.refused-then-count-ge-MOST_QUEUED.ensures
 
 pub bounds-counts-device-2 : goal.bounds-counts-device-2
@@ -49,10 +49,10 @@ slice_bounds-put-end c =
 pub put-requires : goal.put-requires
 put-requires c =
     let here = place _ _ (sym c.valid_queues.ensures ∙ c.if-not-valid_queues.false) c.device_of-device.result c.if-device-addresses.false in
-    (omega (arith, c.if-count-ge-MOST_QUEUED.false), omega (arith, c.if-payload-gt-MOST_DATA.false), part_long _ c.device_of-device.result here.slotted)
+    (omega arith, omega arith, part_long _ c.device_of-device.result here.slotted)
 
 pub returns : goal.returns
 returns c =
-    let few : length c.args.payload.now ≤ 8 = omega (arith, c.if-payload-gt-MOST_DATA.false) in
-    let room : get_or c.args.counts.now c.device_of-device.result 0 < 8 = omega (arith, c.if-count-ge-MOST_QUEUED.false) in
+    let few : length c.args.payload.now ≤ 8 = omega arith in
+    let room : get_or c.args.counts.now c.device_of-device.result 0 < 8 = omega arith in
     added_is _ _ _ _ (sym c.valid_queues.ensures ∙ c.if-not-valid_queues.false) c.device_of-device.result c.device_of-device.ensures c.if-device-addresses.false few c.put.new.slots room c.put.ensures

@@ -13,4 +13,4 @@ pub returns-then-events-count : goal.returns-then-events-count
 returns-then-events-count c = too_few c.args.device c.args.events c.args.counts.now c.args.slots.now (omega arith)
 
 pub returns : goal.returns
-returns c = dropped_is c.args.device c.args.events c.args.counts.now c.args.slots.now c.move_up.new.slots (omega (arith, c.if-device-counts.false)) (omega (arith, c.if-device-slots.false)) (omega (arith, c.if-events-count.false)) c.move_up.ensures
+returns c = dropped_is c.args.device c.args.events c.args.counts.now c.args.slots.now c.move_up.new.slots (omega arith) (omega arith) (omega arith) c.move_up.ensures

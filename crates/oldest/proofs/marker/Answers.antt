@@ -22,7 +22,7 @@ loop-left-init c = (omega arith, refl)
 pub returns-then-first-eq1 : goal.returns-then-first-eq1
 returns-then-first-eq1 c =
     let one : get_or c.args.slots.now c.loop-left.at 0 ≡ 1 = omega (arith, c.byte_at-first.ensures) in
-    let some : 0 < c.args.count = omega (arith, c.if-count-eq0.false) in
+    let some : 0 < c.args.count = omega arith in
     sym (marker_some c.args.count c.args.slots.now some
     ∙ ap (λ (b : Bool). pick b 0 1) (sym c.loop-left.invariant.1 ∙ urgent_here c.args.slots.now c.loop-left.at c.loop-left.left (omega arith) one))
 
@@ -36,12 +36,12 @@ pub loop-left-smaller : goal.loop-left-smaller
 loop-left-smaller c = omega arith
 
 pub loop-left-preserved : goal.loop-left-preserved
-loop-left-preserved c = (omega arith, urgent_later c.args.slots.now c.loop-left.at c.loop-left.left (omega arith) (λ one. omega (arith, c.byte_at-first.ensures, c.if-first-eq1.false, one)) ∙ c.loop-left.invariant.1)
+loop-left-preserved c = (omega arith, urgent_later c.args.slots.now c.loop-left.at c.loop-left.left (omega arith) (λ one. omega (arith, c.byte_at-first.ensures, one)) ∙ c.loop-left.invariant.1)
 
 pub returns : goal.returns
 unfolding some_urgent queued_from
 returns c =
-    let some : 0 < c.args.count = omega (arith, c.if-count-eq0.false) in
+    let some : 0 < c.args.count = omega arith in
     let done : c.loop-left.left ≡ 0 = omega arith in
     sym (marker_some c.args.count c.args.slots.now some
     ∙ ap (λ (b : Bool). pick b 0 1) (sym c.loop-left.invariant.1 ∙ ap (λ (n : ℕ). some_urgent (queued_from n (drop c.loop-left.at c.args.slots.now))) done))

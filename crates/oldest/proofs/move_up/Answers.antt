@@ -12,7 +12,7 @@ pub bounds-slots-from : goal.bounds-slots-from
 bounds-slots-from c = omega arith
 
 pub bounds-slots-i : goal.bounds-slots-i
-bounds-slots-i c = omega (arith, c.loop-from.invariant.0, c.loop-from-test.true)
+bounds-slots-i c = omega (arith, c.loop-from.invariant.0)
 
 pub overflow_add-i : goal.overflow_add-i
 overflow_add-i c = omega (arith, moved_length c.args.by c.args.slots.now c.loop-from.slots c.loop-from.i c.loop-from.from c.loop-from.invariant, c.loop-from.invariant.0)
@@ -21,7 +21,7 @@ pub overflow_add-from : goal.overflow_add-from
 overflow_add-from c = omega (arith, moved_length c.args.by c.args.slots.now c.loop-from.slots c.loop-from.i c.loop-from.from c.loop-from.invariant, c.loop-from.invariant.0)
 
 pub loop-from-smaller : goal.loop-from-smaller
-loop-from-smaller c = simp length-set (omega (arith, c.loop-from-test.true))
+loop-from-smaller c = simp length-set (omega arith)
 
 pub loop-from-preserved : goal.loop-from-preserved
 loop-from-preserved c = moved_next c.args.by c.args.slots.now c.loop-from.slots c.loop-from.i c.loop-from.from c.loop-from.invariant c.loop-from-test.true

@@ -33,7 +33,7 @@ returns-then-place-addresses c =
     let v = c.requires.0 in
     let won = c.decide-won.result in
     let is-won = c.decide-won.ensures ∙ contest_is a.request t q in
-    gives_silence a.request t q v won is-won a.answer.now (omega (arith, c.if-place-addresses.true))
+    gives_silence a.request t q v won is-won a.answer.now (omega arith)
 
 pub bounds-counts-place : goal.bounds-counts-place
 bounds-counts-place c =
@@ -75,7 +75,7 @@ how_many_fit-events-requires c =
     let v = c.requires.0 in
     let won = c.decide-won.result in
     let is-won = c.decide-won.ensures ∙ contest_is a.request t q in
-    let inside : won.place < length a.addresses.now = omega (arith, c.if-place-addresses.false) in
+    let inside : won.place < length a.addresses.now = omega arith in
     subst (λ (l : List ℕ). RightSlots (count_of q won.place) l) (sym (part_is a.slots.now won.place)) (own_slots t q v won.place inside)
 
 pub send_nothing-requires : goal.send_nothing-requires
@@ -94,7 +94,7 @@ returns-then-count-eq0 c =
     let v = c.requires.0 in
     let won = c.decide-won.result in
     let is-won = c.decide-won.ensures ∙ contest_is a.request t q in
-    let inside : won.place < length a.addresses.now = omega (arith, c.if-place-addresses.false) in
+    let inside : won.place < length a.addresses.now = omega arith in
     gives_nothing a.request t q v won is-won a.answer.now inside c.if-count-eq0.true c.send_nothing.result c.send_nothing.new.answer c.send_nothing.ensures.0 c.send_nothing.ensures.1
 
 pub bounds-flags-place : goal.bounds-flags-place
@@ -129,7 +129,7 @@ send-requires c =
     let v = c.requires.0 in
     let won = c.decide-won.result in
     let is-won = c.decide-won.ensures ∙ contest_is a.request t q in
-    let inside : won.place < length a.addresses.now = omega (arith, c.if-place-addresses.false) in
+    let inside : won.place < length a.addresses.now = omega arith in
     let fit = c.how_many_fit-events.ensures ∙ ap (λ (l : List ℕ). how_many_fit a.request.most (queued_from (count_of q won.place) l)) (part_is a.slots.now won.place) in (
       subst (λ (l : List ℕ). RightSlots c.how_many_fit-events.result l) (sym (part_is a.slots.now won.place)) (sent_slots a.request t q v won is-won a.answer.now inside c.how_many_fit-events.result fit),
       omega (arith, ap (λ (d : Decided). d.dominant) c.decide-won.ensures, few_dominant (poll_keys a.request a.addresses.now (queues_of a.counts.now a.slots.now))),
@@ -144,7 +144,7 @@ returns c =
     let v = c.requires.0 in
     let won = c.decide-won.result in
     let is-won = c.decide-won.ensures ∙ contest_is a.request t q in
-    let inside : won.place < length a.addresses.now = omega (arith, c.if-place-addresses.false) in
+    let inside : won.place < length a.addresses.now = omega arith in
     let fit = c.how_many_fit-events.ensures ∙ ap (λ (l : List ℕ). how_many_fit a.request.most (queued_from (count_of q won.place) l)) (part_is a.slots.now won.place) in
     gives_packet a.request t q v won is-won a.answer.now inside c.how_many_fit-events.result fit c.if-count-eq0.false c.send.result c.send.new.answer
     (c.send.ensures.0 ∙ ap (λ (l : List ℕ). length (heard_bytes (packet won.dominant (get_or a.addresses.now won.place 0) (get_or a.flags.now won.place 0) (count_of q won.place) (queued_from c.how_many_fit-events.result l)))) (part_is a.slots.now won.place))

@@ -12,4 +12,4 @@ pub returns-then-count-eq0 : goal.returns-then-count-eq0
 returns-then-count-eq0 c = sym (ap (λ (k : ℕ). oldest_fits c.args.most (queued_from k c.args.slots.now)) c.if-count-eq0.true ∙ none_fits c.args.most c.args.slots.now)
 
 pub returns : goal.returns
-returns c = ap (λ (k : ℕ). leb k c.args.most) c.wire_length.ensures ∙ sym (first_fits c.args.count c.args.most c.args.slots.now (omega (arith, c.if-count-eq0.false)) c.requires.right (omega (arith, c.requires.long)))
+returns c = ap (λ (k : ℕ). leb k c.args.most) c.wire_length.ensures ∙ sym (first_fits c.args.count c.args.most c.args.slots.now (omega arith) c.requires.right (omega (arith, c.requires.long)))

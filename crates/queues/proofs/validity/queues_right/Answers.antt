@@ -36,7 +36,7 @@ pub slice_bounds-queue_right-end : goal.slice_bounds-queue_right-end
 slice_bounds-queue_right-end c = omega arith
 
 pub queue_right-requires : goal.queue_right-requires
-queue_right-requires c = ap length (part_is c.args.slots.now c.loop-i.i) ∙ slots_length_lem c.args.slots.now c.loop-i.i (omega (arith, c.requires.1, c.loop-i-test.true))
+queue_right-requires c = ap length (part_is c.args.slots.now c.loop-i.i) ∙ slots_length_lem c.args.slots.now c.loop-i.i (omega (arith, c.requires.1))
 
 pub returns-then-not-queue_right : goal.returns-then-not-queue_right
 returns-then-not-queue_right c =
