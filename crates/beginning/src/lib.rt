@@ -9,6 +9,7 @@ use addresses::is_initiator;
 use escapes::{ESC, SYN};
 
 // How many bytes the piece has that three bytes begin with; 0 where they begin with none.
+#[tactic(auto, unfolding(crate::specs::Beginning::piece_of))]
 fn piece_of(first: u8, second: u8, third: u8) -> usize
     ensures { result ≡ piece_of first second third }
 {

@@ -45,6 +45,7 @@ struct Replies {
 }
 
 // SYN is due at this position: the verdict on an exchange that is whole but for it.
+#[tactic(auto, unfolding(crate::specs::Exchange::syn_at))]
 fn verdict_at(run: &[u8], kind: ExchangeKind, commands: u8, replies: u8, at: usize) -> Judged
     ensures { result ≡ answered (on_end kind commands replies [] [] [] (syn_at run.now at)) }
 {
@@ -164,6 +165,7 @@ fn too_short() -> Judged
 }
 
 // Whether buffers of these lengths have the room that is asked of them.
+#[tactic(auto, unfolding(crate::specs::Exchange::rooms))]
 pub fn have_room(command: usize, first: usize, second: usize) -> bool
     ensures { result ≡ rooms command first second }
 {

@@ -1,5 +1,5 @@
 -- `beginning::command_start` meets its contract. Assumes nothing.
-use mathlib.Core.Path.{sym, ◌∙◌}
+use mathlib.Core.Path.{◌≡◌, sym, ◌∙◌}
 use native.Mathlib.Nat.{zero-add}
 use native.Mathlib.Omega.{arith}
 use lib.ListN.{drop, length-drop}
@@ -24,13 +24,14 @@ overflow_add-at c =
     omega (arith, c.loop-at-test.true, c.piece_at-n.ensures, piece_size (drop at run), length-drop at run)
 
 pub loop-at-smaller : goal.loop-at-smaller
-loop-at-smaller c = omega (arith, c.loop-at-test.true, c.if-n-eq0.false)
+loop-at-smaller c = omega arith
 
 pub loop-at-preserved : goal.loop-at-preserved
 loop-at-preserved c =
     let run = c.args.run.now in
     let at = c.loop-at.at in
-    (omega (arith, c.loop-at-test.true, c.piece_at-n.ensures, piece_size (drop at run), length-drop at run), pass run at c.piece_at-n.result c.loop-at.invariant.1 c.piece_at-n.ensures c.if-n-eq0.false)
+    let some : c.piece_at-n.result ≡ 0 → ⊥ = λ e. omega arith in
+    (omega (arith, c.loop-at-test.true, c.piece_at-n.ensures, piece_size (drop at run), length-drop at run), pass run at c.piece_at-n.result c.loop-at.invariant.1 c.piece_at-n.ensures some)
 
 pub returns : goal.returns
 returns c = pass_all c.args.run.now c.loop-at.at c.loop-at.invariant.1 c.loop-at-test.false

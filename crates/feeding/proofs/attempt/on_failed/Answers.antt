@@ -1,7 +1,8 @@
 -- `feeding::attempt::on_failed` meets its contract: by the end of the bytes, by what is thrown away, or by neither.
 -- Assumes nothing.
-use mathlib.Core.Path.{refl, sym, ◌∙◌}
+use mathlib.Core.Path.{◌≡◌, refl, sym, ◌∙◌}
 use native.Mathlib.Omega.{arith}
+use Rattle.refusal.specs.Number.{run_ended}
 use Rattle.feeding.proofs.Idle.{thrown_most, unless_none, unless_some}
 use Rattle.feeding.proofs.Decided.{failed_open, failed_known, shut_ends}
 use Rattle.feeding.specs.Inner.{state_of}
@@ -10,9 +11,10 @@ use Rattle.feeding.proofs.attempt.on_failed.Goals as goal
 pub returns-then-why-eq-RUN_ENDED : goal.returns-then-why-eq-RUN_ENDED
 returns-then-why-eq-RUN_ENDED c =
     let m = c.args.m in
-    let bytes = c.args.bytes.now in (
-      λ kept. failed_open m bytes c.args.n c.args.why kept c.if-why-eq-RUN_ENDED.true ∙ unless_none (state_of m kept) bytes c.args.held _ (c.requires.5 c.if-why-eq-RUN_ENDED.true),
-      λ _. (refl, c.requires.2 c.if-why-eq-RUN_ENDED.true),
+    let bytes = c.args.bytes.now in
+    let ended : c.args.why.number ≡ run_ended = omega arith in (
+      λ kept. failed_open m bytes c.args.n c.args.why kept ended ∙ unless_none (state_of m kept) bytes c.args.held _ (c.requires.5 ended),
+      λ _. (refl, c.requires.2 ended),
     )
 
 pub begin_anew-requires : goal.begin_anew-requires
@@ -27,12 +29,15 @@ returns-then-thrown-ne0 c =
     )
 
 pub overflow_add-m : goal.overflow_add-m
-overflow_add-m c = omega (arith, c.requires.3 c.if-why-eq-RUN_ENDED.false)
+overflow_add-m c =
+    let known : c.args.why.number ≡ run_ended → ⊥ = λ e. omega arith in
+    omega (arith, c.requires.3 known)
 
 pub returns : goal.returns
 returns c =
     let m = c.args.m in
-    let bytes = c.args.bytes.now in (
-      λ kept. failed_known m bytes c.args.n c.args.why kept c.if-why-eq-RUN_ENDED.false c.answers.result c.answers.ensures ∙ unless_none (state_of m kept) bytes c.args.held _ (sym c.thrown_away-thrown.ensures ∙ c.if-thrown-ne0.false),
+    let bytes = c.args.bytes.now in
+    let known : c.args.why.number ≡ run_ended → ⊥ = λ e. omega arith in (
+      λ kept. failed_known m bytes c.args.n c.args.why kept known c.answers.result c.answers.ensures ∙ unless_none (state_of m kept) bytes c.args.held _ (sym c.thrown_away-thrown.ensures ∙ c.if-thrown-ne0.false),
       λ opened. absurd (shut_ends opened),
     )

@@ -20,7 +20,7 @@ returns-then-due-eq-FIRST_COMMAND c =
     let bytes = c.args.bytes.now in
     let held = c.args.held in
     let due = c.args.due in
-    let first : due ≡ first_command = omega (arith, c.if-due-eq-FIRST_COMMAND.true) in
+    let first : due ≡ first_command = omega arith in
     c.passed_over.ensures
     ∙ ap (passed_over (take held bytes)) (take_all (length bytes - held) (drop held bytes) (omega (arith, length-drop held bytes)))
     ∙ sym (ap (λ (t : Bool). pick t (passed_over (take held bytes) (drop held bytes)) 0) (eq-eqb due first_command first))
@@ -30,5 +30,5 @@ returns c =
     let bytes = c.args.bytes.now in
     let held = c.args.held in
     let due = c.args.due in
-    let later : due ≡ first_command → ⊥ = λ first. omega (arith, c.if-due-eq-FIRST_COMMAND.false, first) in
+    let later : due ≡ first_command → ⊥ = λ first. omega arith in
     sym (ap (λ (t : Bool). pick t (passed_over (take held bytes) (drop held bytes)) 0) (ne_eqb due first_command later))
