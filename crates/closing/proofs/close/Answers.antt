@@ -3,6 +3,7 @@
 use mathlib.Core.Path.{◌≡◌, sym, ap, ◌∙◌}
 use mathlib.Core.Bool.{true, false}
 use Prim.Native.Nat.{ℕ}
+use native.Mathlib.Omega.{arith}
 use lib.ListN.{length}
 use Rattle.refusal.specs.Number.{output_short, run_ended, at_place}
 use Rattle.exchange.specs.declared.judge.Judged.TheVariants.{Refused}
@@ -56,4 +57,5 @@ returns c =
     let first = c.args.reply_1.now in
     let second = c.args.reply_2.now in
     let room : rooms (length command) (length first) (length second) ≡ true = sym c.have_room.ensures ∙ c.if-not-have_room.false in
-    record { judges = judges_same (closing_is s (length command) (length first) (length second) true room ∙ answer_accepts s c.if-state-lt-NOTHING_DUE.false c.if-state-ne0.false) c.accept.ensures; state_value = closed_before s c.if-state-lt-NOTHING_DUE.false ∙ sym (closing_state_is s (length command) (length first) (length second) true room) }
+    let none : s.number ≡ 0 = omega arith in
+    record { judges = judges_same (closing_is s (length command) (length first) (length second) true room ∙ answer_accepts s c.if-state-lt-NOTHING_DUE.false none) c.accept.ensures; state_value = closed_before s c.if-state-lt-NOTHING_DUE.false ∙ sym (closing_state_is s (length command) (length first) (length second) true room) }

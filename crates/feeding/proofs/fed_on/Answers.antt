@@ -37,22 +37,22 @@ returns-then-t c =
     let bytes = c.bytes_at-bytes.result.now in
     let ends = c.turn-t.ensures.ends in
     let raw-is = c.put.ensures ∙ ap (λ (l : List ℕ). starting (take (length l) bytes) l) c.loop-i.invariant.1 ∙ put_whole bytes (replicate hand_room 0) (ends c.if-t.true).1 in
-    turn_open _ c.args.run.now c.args.hand.now c.loop-i.m _ c.loop-i.held c.loop-i.i c.requires.0 c.loop-i.invariant.0 c.loop-i-test.true c.args.both.now c.bytes_at-bytes.result.now c.requires.4 c.bytes_at-bytes.ensures c.if-m-ge-NOTHING_DUE.false c.turn-t.result _ c.turn-t.ensures.kept_after c.if-t.true ends _ (ap (λ (l : List ℕ). state_with c.turn-t.result.marks (length bytes) l c.turn-t.new.kept) raw-is)
+    turn_open _ c.args.run.now c.args.hand.now c.loop-i.m _ c.loop-i.held c.loop-i.i c.requires.0 c.loop-i.invariant.0 c.loop-i-test.true c.args.both.now c.bytes_at-bytes.result.now c.requires.4 c.bytes_at-bytes.ensures (omega arith) c.turn-t.result _ c.turn-t.ensures.kept_after c.if-t.true ends _ (ap (λ (l : List ℕ). state_with c.turn-t.result.marks (length bytes) l c.turn-t.new.kept) raw-is)
 
 pub overflow_sub-i : goal.overflow_sub-i
-overflow_sub-i c = let some = turn_some _ c.args.run.now c.args.hand.now c.loop-i.m _ c.loop-i.held c.loop-i.i c.requires.0 c.loop-i.invariant.0 c.loop-i-test.true c.args.both.now c.bytes_at-bytes.result.now c.requires.4 c.bytes_at-bytes.ensures c.if-m-ge-NOTHING_DUE.false c.turn-t.result _ c.turn-t.ensures.kept_after in omega arith
+overflow_sub-i c = let some = turn_some _ c.args.run.now c.args.hand.now c.loop-i.m _ c.loop-i.held c.loop-i.i c.requires.0 c.loop-i.invariant.0 c.loop-i-test.true c.args.both.now c.bytes_at-bytes.result.now c.requires.4 c.bytes_at-bytes.ensures (omega arith) c.turn-t.result _ c.turn-t.ensures.kept_after in omega arith
 
 pub overflow_add-i : goal.overflow_add-i
-overflow_add-i c = let within = turn_within _ c.args.run.now c.args.hand.now c.loop-i.m _ c.loop-i.held c.loop-i.i c.requires.0 c.loop-i.invariant.0 c.loop-i-test.true c.args.both.now c.bytes_at-bytes.result.now c.requires.4 c.bytes_at-bytes.ensures c.if-m-ge-NOTHING_DUE.false c.turn-t.result _ c.turn-t.ensures.kept_after in omega (arith, c.loop-i-test.true, c.requires.3)
+overflow_add-i c = let within = turn_within _ c.args.run.now c.args.hand.now c.loop-i.m _ c.loop-i.held c.loop-i.i c.requires.0 c.loop-i.invariant.0 c.loop-i-test.true c.args.both.now c.bytes_at-bytes.result.now c.requires.4 c.bytes_at-bytes.ensures (omega arith) c.turn-t.result _ c.turn-t.ensures.kept_after in omega (arith, c.loop-i-test.true, c.requires.3)
 
 pub loop-i-smaller : goal.loop-i-smaller
 loop-i-smaller c =
-    let some = turn_some _ c.args.run.now c.args.hand.now c.loop-i.m _ c.loop-i.held c.loop-i.i c.requires.0 c.loop-i.invariant.0 c.loop-i-test.true c.args.both.now c.bytes_at-bytes.result.now c.requires.4 c.bytes_at-bytes.ensures c.if-m-ge-NOTHING_DUE.false c.turn-t.result _ c.turn-t.ensures.kept_after in
-    let within = turn_within _ c.args.run.now c.args.hand.now c.loop-i.m _ c.loop-i.held c.loop-i.i c.requires.0 c.loop-i.invariant.0 c.loop-i-test.true c.args.both.now c.bytes_at-bytes.result.now c.requires.4 c.bytes_at-bytes.ensures c.if-m-ge-NOTHING_DUE.false c.turn-t.result _ c.turn-t.ensures.kept_after in
+    let some = turn_some _ c.args.run.now c.args.hand.now c.loop-i.m _ c.loop-i.held c.loop-i.i c.requires.0 c.loop-i.invariant.0 c.loop-i-test.true c.args.both.now c.bytes_at-bytes.result.now c.requires.4 c.bytes_at-bytes.ensures (omega arith) c.turn-t.result _ c.turn-t.ensures.kept_after in
+    let within = turn_within _ c.args.run.now c.args.hand.now c.loop-i.m _ c.loop-i.held c.loop-i.i c.requires.0 c.loop-i.invariant.0 c.loop-i-test.true c.args.both.now c.bytes_at-bytes.result.now c.requires.4 c.bytes_at-bytes.ensures (omega arith) c.turn-t.result _ c.turn-t.ensures.kept_after in
     omega (arith, c.loop-i-test.true)
 
 pub loop-i-preserved : goal.loop-i-preserved
-loop-i-preserved c = (turn_decided _ c.args.run.now c.args.hand.now c.loop-i.m _ c.loop-i.held c.loop-i.i c.requires.0 c.loop-i.invariant.0 c.loop-i-test.true c.args.both.now c.bytes_at-bytes.result.now c.requires.4 c.bytes_at-bytes.ensures c.if-m-ge-NOTHING_DUE.false c.turn-t.result _ c.turn-t.ensures.kept_after c.if-t.false, c.loop-i.invariant.1)
+loop-i-preserved c = (turn_decided _ c.args.run.now c.args.hand.now c.loop-i.m _ c.loop-i.held c.loop-i.i c.requires.0 c.loop-i.invariant.0 c.loop-i-test.true c.args.both.now c.bytes_at-bytes.result.now c.requires.4 c.bytes_at-bytes.ensures (omega arith) c.turn-t.result _ c.turn-t.ensures.kept_after c.if-t.false, c.loop-i.invariant.1)
 
 pub returns : goal.returns
 returns c = ap (λ (x : List ℕ). record { state = state_with c.loop-i.m 0 x c.loop-i.kept; used = c.loop-i.i }) c.loop-i.invariant.1 ∙ turns_end _ _ _ _ _ _ _ c.loop-i.invariant.0 c.loop-i-test.false c.requires.2
