@@ -1,5 +1,10 @@
 // The arguments behind `capture`.
+use desk::part::start_of;
 use desk::word;
+use std::env::{Env, FillError};
+
+// Room for an argument. What is longer names no file.
+pub(crate) const ARGUMENT: usize = 4096;
 
 // Which exchanges have a line, and whether help is asked; the places among the arguments of the file
 // and of one that is not taken, 0 where there is none.
@@ -15,8 +20,7 @@ pub(crate) struct Asked {
 // The first argument is the program's name, and the second `capture`.
 const FIRST: usize = 2;
 
-pub(crate) fn read() -> Asked {
-    let n = os::arg_count();
+pub(crate) fn read(rt: &impl Env) -> Asked {
     let mut asked = Asked {
         accepted: true,
         refused: true,
@@ -24,20 +28,33 @@ pub(crate) fn read() -> Asked {
         file: 0,
         wrong: 0,
     };
-    let mut i = FIRST;
-    while i < n {
-        asked = asked.with(i);
-        i += 1;
+    for i in FIRST..usize::MAX {
+        let mut store = [0u8; ARGUMENT];
+        match argument_at(rt, i, &mut store) {
+            Some(argument) => asked = asked.with(i, argument),
+            None => return asked,
+        }
     }
     asked
 }
 
+// The argument at this place, where there is one. What has no room counts as empty.
+pub(crate) fn argument_at<'a>(
+    rt: &impl Env,
+    i: usize,
+    store: &'a mut [u8; ARGUMENT],
+) -> Option<&'a [u8]> {
+    match rt.arg(i, store) {
+        Ok(n) => Some(start_of(store, n)),
+        Err(FillError::TooLong) => Some(start_of(store, 0)),
+        Err(FillError::NotPresent) => None,
+    }
+}
+
 impl Asked {
     // The argument at this place too.
-    fn with(mut self, i: usize) -> Asked {
-        let mut store = io::buffer();
-        let n = os::arg(i, &mut store);
-        let option = word::place(b"--refused --summary --help -h", &store[..n]);
+    fn with(mut self, i: usize, argument: &[u8]) -> Asked {
+        let option = word::place(b"--refused --summary --help -h", argument);
         match option {
             0 => {
                 self.accepted = false;
@@ -52,7 +69,7 @@ impl Asked {
                 self.help = true;
                 self
             }
-            _ => self.with_file(i, &store[..n]),
+            _ => self.with_file(i, argument),
         }
     }
 

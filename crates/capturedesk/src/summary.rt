@@ -43,13 +43,11 @@ fn given(waiting: usize, page: &mut [u8; PAGE], number: u8, times: u64) -> usize
 // .. of each number that was given.
 fn numbers(waiting: usize, page: &mut [u8; PAGE], refused: [u64; NUMBERS]) -> usize {
     let mut k = waiting;
-    let mut i = 0;
-    while i < NUMBERS {
+    for i in 0..NUMBERS {
         let times = refused[i];
         if times > 0 {
             k = given(k, page, (i % 256) as u8, times);
         }
-        i += 1;
     }
     k
 }

@@ -1,6 +1,6 @@
 // The capture command on the example capture, so that its report is compared with each check.
 #![tactic(auto)]
 
-fn main() {
-    capturedesk::from_arguments();
+fn main(rt: HostRuntime) {
+    capturedesk::from_arguments(&rt);
 }

@@ -45,8 +45,7 @@ fn unknown() -> Checked {
 pub fn check_of(run: &[u8], place: usize) -> Checked {
     let mut at = command_start(run);
     let mut command = true;
-    let mut left = MOST_TELEGRAMS;
-    while left > 0 {
+    for _ in 0..MOST_TELEGRAMS {
         let t = telegram_at(run, command, at);
         if !t.whole {
             return unknown();
@@ -58,7 +57,6 @@ pub fn check_of(run: &[u8], place: usize) -> Checked {
             command = false;
         }
         at = behind(t.next);
-        left -= 1;
     }
     unknown()
 }
@@ -85,52 +83,50 @@ fn behind(place: usize) -> usize {
 
 // A refusal of what was heard on eBUS. `before` bytes were heard before the run, and the place
 // counts them.
-pub fn refused_run(page: Page, why: Refusal, run: &[u8], before: usize) -> Page {
+pub fn refused_run(rt: &impl Print, page: Page, why: Refusal, run: &[u8], before: usize) -> Page {
     if why.number != CHECK_WRONG {
-        return say::refused(page, why);
+        return say::refused(rt, page, why);
     }
     if why.place < before {
-        return say::refused(page, why);
+        return say::refused(rt, page, why);
     }
-    say_checked(page, why, check_of(run, why.place - before))
+    say_checked(rt, page, why, check_of(run, why.place - before))
 }
 
 // ---- Fast Modbus
 
 // The check of a frame, low byte first. The FF before an answer are not part of it, and no frame
 // begins with one.
-pub fn refused_frame(page: Page, why: Refusal, input: &[u8]) -> Page {
+pub fn refused_frame(rt: &impl Print, page: Page, why: Refusal, input: &[u8]) -> Page {
     if why.number != FRAME_CHECK {
-        return say::refused(page, why);
+        return say::refused(rt, page, why);
     }
     let place = why.place;
     let value = modbus_check(word::part(input, fill(input), place)) as u64;
-    let named = say::refused_for(page, why);
-    let due = texts::text(named, texts::EXPECTED_PAIR, two(value, value / 256));
+    let named = say::refused_for(rt, page, why);
+    let due = texts::text(rt, named, texts::EXPECTED_PAIR, two(value, value / 256));
     let low = byte_at(input, place) as u64;
     let high = byte_at(input, behind(place)) as u64;
-    let said = texts::text(due, texts::FOUND_PAIR, two(low, high));
-    texts::plain(said, texts::REFUSED_END)
+    let said = texts::text(rt, due, texts::FOUND_PAIR, two(low, high));
+    texts::plain(rt, said, texts::REFUSED_END)
 }
 
 // How many FF an input begins with.
 fn fill(input: &[u8]) -> usize {
-    let mut i = 0;
-    while i < input.len() {
+    for i in 0..input.len() {
         if input[i] != FILL_BYTE {
             return i;
         }
-        i += 1;
     }
-    i
+    input.len()
 }
 
 // ---- Railbus
 
 // The checksum of a packet, as the two digits stand for it.
-pub fn refused_packet(page: Page, why: Refusal, input: &[u8]) -> Page {
+pub fn refused_packet(rt: &impl Print, page: Page, why: Refusal, input: &[u8]) -> Page {
     if why.number != FRAME_CHECK {
-        return say::refused(page, why);
+        return say::refused(rt, page, why);
     }
     let place = why.place;
     let high = digit(byte_at(input, place)) % 16;
@@ -140,18 +136,18 @@ pub fn refused_packet(page: Page, why: Refusal, input: &[u8]) -> Page {
         expected: checksum(start_of(input, place)),
         found: high * 16 + low,
     };
-    say_checked(page, why, checked)
+    say_checked(rt, page, why, checked)
 }
 
 // ---- saying it
 
 // A refusal, and in its brackets what was expected and found, where that is known.
-fn say_checked(page: Page, why: Refusal, checked: Checked) -> Page {
+fn say_checked(rt: &impl Print, page: Page, why: Refusal, checked: Checked) -> Page {
     if !checked.known {
-        return say::refused(page, why);
+        return say::refused(rt, page, why);
     }
-    let named = say::refused_for(page, why);
+    let named = say::refused_for(rt, page, why);
     let bytes = two(checked.expected as u64, checked.found as u64);
-    let said = texts::text(named, texts::EXPECTED, bytes);
-    texts::plain(said, texts::REFUSED_END)
+    let said = texts::text(rt, named, texts::EXPECTED, bytes);
+    texts::plain(rt, said, texts::REFUSED_END)
 }

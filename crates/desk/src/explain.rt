@@ -6,36 +6,37 @@ use crate::say::{Page, no_number, one};
 use crate::state::Desk;
 use crate::{names, texts, word};
 
-pub fn explain(line: &[u8], at: usize, d: Desk) -> Desk {
+pub fn explain(rt: &impl Print, line: &[u8], at: usize, d: Desk) -> Desk {
     let read = last_number(line, at, u64::MAX);
     match read {
         NumberRead::Wrong(why) => {
             if why.what == TOO_LARGE {
-                return meaningless(line, at, d);
+                return meaningless(rt, line, at, d);
             }
-            d.wrong(why)
+            d.wrong(rt, why)
         }
         NumberRead::Number(number, _) => match number {
-            1..=19 | 26 => d.with_page(say_number(d.page, (number % 256) as u8)),
-            _ => meaningless(line, at, d),
+            1..=19 | 26 => d.with_page(say_number(rt, d.page, (number % 256) as u8)),
+            _ => meaningless(rt, line, at, d),
         },
     }
 }
 
 // The next word from `at` on is a number, and means nothing.
-fn meaningless(line: &[u8], at: usize, d: Desk) -> Desk {
+fn meaningless(rt: &impl Print, line: &[u8], at: usize, d: Desk) -> Desk {
     let w = word::next(line, at);
-    d.wrong_at(NO_MEANING, w.from)
+    d.wrong_at(rt, NO_MEANING, w.from)
 }
 
-fn say_number(page: Page, number: u8) -> Page {
-    let a = texts::text(page, texts::EXPLAINED, one(number as u64));
-    say_meaning(names::name(a, number), number)
+fn say_number(rt: &impl Print, page: Page, number: u8) -> Page {
+    let a = texts::text(rt, page, texts::EXPLAINED, one(number as u64));
+    say_meaning(rt, names::name(rt, a, number), number)
 }
 
 // A line for each number; the line above is ended first.
-fn say_meaning(page: Page, number: u8) -> Page {
+fn say_meaning(rt: &impl Print, page: Page, number: u8) -> Page {
     numbered(
+        rt,
         page,
         b"1 |__What was lent for the output has too little room. It is left as it was.|__The place is 0: no byte is named.|
 2 |__The device table breaks a rule, or with events its queues do, or the registers and|__access bytes of a relay. The commands table and queues say which rule and where.|__The place is 0: no byte is named.|

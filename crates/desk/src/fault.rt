@@ -54,8 +54,9 @@ pub fn fault_at(what: u8, at: usize) -> Fault {
 }
 
 // What was wrong, in words.
-fn say_what(page: Page, what: u8) -> Page {
+fn say_what(rt: &impl Print, page: Page, what: u8) -> Page {
     numbered(
+        rt,
         page,
         b"1 no such command; help lists the commands
 2 a word is missing
@@ -83,10 +84,10 @@ fn say_what(page: Page, what: u8) -> Page {
 }
 
 // The answer to a line that can't be read. Lines and columns count from 1.
-pub(crate) fn say_fault(page: Page, why: Fault, line: u64) -> Page {
-    let a = texts::plain(page, texts::ERROR);
-    let b = say_what(a, why.what);
-    texts::text(b, texts::ERROR_END, two(line, one_more(why.at as u64)))
+pub(crate) fn say_fault(rt: &impl Print, page: Page, why: Fault, line: u64) -> Page {
+    let a = texts::plain(rt, page, texts::ERROR);
+    let b = say_what(rt, a, why.what);
+    texts::text(rt, b, texts::ERROR_END, two(line, one_more(why.at as u64)))
 }
 
 // The next number, where there is one.

@@ -2,6 +2,7 @@
 // the page that answers are put on.
 #![tactic(auto)]
 
+pub mod aside;
 pub mod expected;
 pub mod explain;
 pub mod fault;

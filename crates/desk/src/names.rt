@@ -2,36 +2,46 @@
 use crate::part::start_of;
 use crate::say::{Numbers, Page};
 use crate::{say, word};
+use itoa::Buffer;
 use spelling::LINE;
 
-pub(crate) fn name(page: Page, number: u8) -> Page {
+pub(crate) fn name(rt: &impl Print, page: Page, number: u8) -> Page {
     let mut line = [0u8; LINE];
     let n = spelling::name(0, &mut line, number);
-    put_line(page, &line, n)
+    put_line(rt, page, &line, n)
 }
 
 // The first n bytes of a line.
-fn put_line(page: Page, line: &[u8; LINE], n: usize) -> Page {
-    say::put(page, start_of(line, n))
+fn put_line(rt: &impl Print, page: Page, line: &[u8; LINE], n: usize) -> Page {
+    say::put(rt, page, start_of(line, n))
 }
 
 // Says the words of the line that begins with this number, filled with these.
-pub(crate) fn numbered(page: Page, lines: &[u8], number: u8, numbers: Numbers) -> Page {
-    let mut digits = [0u8; 20];
-    let k = io::decimal(number as u64, &mut digits);
-    words_behind(page, lines, &digits[..k], numbers)
+pub(crate) fn numbered(
+    rt: &impl Print,
+    page: Page,
+    lines: &[u8],
+    number: u8,
+    numbers: Numbers,
+) -> Page {
+    let mut digits = Buffer::new();
+    words_behind(rt, page, lines, digits.format(number).as_bytes(), numbers)
 }
 
 // Says the words of the line that begins with these digits.
-fn words_behind(page: Page, lines: &[u8], number: &[u8], numbers: Numbers) -> Page {
-    let mut i = 0;
-    while i < lines.len() {
+fn words_behind(
+    rt: &impl Print,
+    page: Page,
+    lines: &[u8],
+    number: &[u8],
+    numbers: Numbers,
+) -> Page {
+    for i in 0..lines.len() {
         if begins(lines, i, number) {
-            return say::filled(page, behind(lines, i), numbers);
+            return say::filled(rt, page, behind(lines, i), numbers);
         }
-        i += 1;
     }
-    say::filled(page, b"no name", numbers)
+    say::filled(rt, page, b"no name", numbers)
 }
 
 // Whether a line begins here, and this is its first word.

@@ -34,8 +34,7 @@ fn number_in(line: &[u8], from: usize, to: usize, base: u64) -> NumberRead
     requires { (to ≤ length line.now) × (1 ≤ base) × (base ≤ 16) }
 {
     let mut value: u64 = 0;
-    let mut i = from;
-    while i < to {
+    for i in from..to {
         let d = digit(line[i]) as u64;
         if base <= d {
             return NumberRead::Wrong(fault_at(no_digit(base), i));
@@ -44,7 +43,6 @@ fn number_in(line: &[u8], from: usize, to: usize, base: u64) -> NumberRead
             return NumberRead::Wrong(fault_at(TOO_LARGE, from));
         }
         value = value * base + d;
-        i += 1;
     }
     NumberRead::Number(value, to)
 }

@@ -5,6 +5,7 @@ use crate::say::Page;
 use crate::{fault, heard, say, texts, word};
 use listening::Listening;
 use relay::{REGISTERS, Remembered};
+use std::io::Error;
 
 // Every output has room for what a line of 8,192 bytes expands to.
 pub const FULL: usize = 16384;
@@ -116,7 +117,7 @@ pub fn new() -> Desk {
         relay: fresh_relay(0),
         listening: listening::listen(),
         heard: heard::nothing(),
-        page: say::empty(false),
+        page: say::empty(None),
         room: FULL,
         line: 1,
         echo: false,
@@ -185,16 +186,21 @@ impl Desk {
         self
     }
 
-    // Nothing more can be written out.
-    pub fn failed(self) -> bool {
+    // Why nothing more can be written out, where that is so.
+    pub fn failure(self) -> Option<Error> {
         let page = self.page;
         page.failed
     }
 
+    // Nothing more can be written out.
+    pub fn failed(self) -> bool {
+        self.failure().is_some()
+    }
+
     // The line is repeated, where that is asked for.
-    pub fn echoed(self, line: &[u8]) -> Desk {
+    pub fn echoed(self, rt: &impl Print, line: &[u8]) -> Desk {
         if self.echo {
-            return self.with_page(say::spelled(self.page, texts::ECHO, line));
+            return self.with_page(say::spelled(rt, self.page, texts::ECHO, line));
         }
         self
     }
@@ -206,8 +212,8 @@ impl Desk {
     }
 
     // What waits on the page is written out.
-    pub fn written_out(self) -> Desk {
-        self.with_page(say::flush(self.page))
+    pub fn written_out(self, rt: &impl Print) -> Desk {
+        self.with_page(say::flush(rt, self.page))
     }
 
     // The line is done.
@@ -217,29 +223,29 @@ impl Desk {
     }
 
     // The command is obeyed, and has nothing else to say.
-    pub fn ok(self) -> Desk {
-        self.with_page(texts::plain(self.page, texts::OK))
+    pub fn ok(self, rt: &impl Print) -> Desk {
+        self.with_page(texts::plain(rt, self.page, texts::OK))
     }
 
     // Says what was wrong with the line.
-    pub fn wrong(self, why: Fault) -> Desk {
-        self.with_page(fault::say_fault(self.page, why, self.line))
+    pub fn wrong(self, rt: &impl Print, why: Fault) -> Desk {
+        self.with_page(fault::say_fault(rt, self.page, why, self.line))
     }
 
     // Says what was wrong at this place of the line.
-    pub fn wrong_at(self, what: u8, at: usize) -> Desk {
-        self.wrong(fault::fault_at(what, at))
+    pub fn wrong_at(self, rt: &impl Print, what: u8, at: usize) -> Desk {
+        self.wrong(rt, fault::fault_at(what, at))
     }
 
     // A word stands behind what the command takes.
-    pub fn extra(self, line: &[u8], at: usize) -> Desk {
+    pub fn extra(self, rt: &impl Print, line: &[u8], at: usize) -> Desk {
         let w = word::next(line, at);
-        self.wrong_at(EXTRA, w.from)
+        self.wrong_at(rt, EXTRA, w.from)
     }
 
     // The line's first word is no command.
-    pub fn unknown(self, line: &[u8]) -> Desk {
+    pub fn unknown(self, rt: &impl Print, line: &[u8]) -> Desk {
         let w = word::next(line, 0);
-        self.wrong_at(UNKNOWN_COMMAND, w.from)
+        self.wrong_at(rt, UNKNOWN_COMMAND, w.from)
     }
 }

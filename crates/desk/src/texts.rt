@@ -135,8 +135,9 @@ pub const LAST_OVER: u8 = 65;
 
 pub const SLOT_WRONG: u8 = 66;
 
-pub fn text(page: Page, number: u8, numbers: Numbers) -> Page {
+pub fn text(rt: &impl Print, page: Page, number: u8, numbers: Numbers) -> Page {
     numbered(
+        rt,
         page,
         b"1 ok|
 2 ok
@@ -211,6 +212,6 @@ pub fn text(page: Page, number: u8, numbers: Numbers) -> Page {
 }
 
 // A text with no number in it.
-pub fn plain(page: Page, number: u8) -> Page {
-    text(page, number, no_number())
+pub fn plain(rt: &impl Print, page: Page, number: u8) -> Page {
+    text(rt, page, number, no_number())
 }

@@ -22,14 +22,12 @@ fn past(line: &[u8], at: usize, blanks: bool) -> usize
     requires { at ≤ length line.now }
     ensures { (at ≤ result) × (result ≤ length line.now) }
 {
-    let mut i = at;
-    while i < line.len() {
+    for i in at..line.len() {
         if is_blank(line[i]) != blanks {
             return i;
         }
-        i += 1;
     }
-    i
+    line.len()
 }
 
 // The next word from `at` on.
@@ -63,15 +61,13 @@ pub fn part(line: &[u8], from: usize, to: usize) -> &[u8] {
 
 // The first newline from `from` on, or `to` where there is none before it.
 pub fn end_of(input: &[u8], from: usize, to: usize) -> usize {
-    let mut i = from;
-    while i < to {
+    for i in from..to {
         if input.len() <= i {
             return to;
         }
         if input[i] == b'\n' {
             return i;
         }
-        i += 1;
     }
     to
 }
@@ -84,28 +80,24 @@ pub fn uncommented(line: &[u8]) -> &[u8] {
 // Where the comment of a line begins, or the line's end where there is none.
 fn comment_at(line: &[u8]) -> usize {
     let mut blank = false;
-    let mut i = 0;
-    while i < line.len() {
+    for i in 0..line.len() {
         let b = line[i];
         if blank && b == b'#' {
             return i;
         }
         blank = is_blank(b);
-        i += 1;
     }
-    i
+    line.len()
 }
 
 pub(crate) fn same(a: &[u8], b: &[u8]) -> bool {
     if a.len() != b.len() {
         return false;
     }
-    let mut i = 0;
-    while i < a.len() {
+    for i in 0..a.len() {
         if a[i] != b[i] {
             return false;
         }
-        i += 1;
     }
     true
 }
@@ -113,8 +105,7 @@ pub(crate) fn same(a: &[u8], b: &[u8]) -> bool {
 // The place of a word in a list of words, from 0 on, or how many there are where it is none of them.
 pub fn place(words: &[u8], word: &[u8]) -> usize {
     let mut at = 0;
-    let mut n = 0;
-    while n < words.len() {
+    for n in 0..words.len() {
         let w = next(words, at);
         if w.from == w.to {
             return n;
@@ -123,7 +114,6 @@ pub fn place(words: &[u8], word: &[u8]) -> usize {
             return n;
         }
         at = w.to;
-        n += 1;
     }
-    n
+    words.len()
 }

@@ -11,46 +11,46 @@ use eventrequests::{EventRequest, EventRequestRead};
 use events::EventRead;
 use packets::EventsRead;
 
-pub(crate) fn read_poll(input: &[u8], page: Page) -> Page {
+pub(crate) fn read_poll(rt: &impl Print, input: &[u8], page: Page) -> Page {
     let read = eventrequests::read_event_request(input);
     match read {
-        EventRequestRead::Asked(request) => say_request(request, page),
-        EventRequestRead::Refused(why) => refused_frame(page, why, input),
+        EventRequestRead::Asked(request) => say_request(rt, request, page),
+        EventRequestRead::Refused(why) => refused_frame(rt, page, why, input),
     }
 }
 
-fn say_request(request: EventRequest, page: Page) -> Page {
+fn say_request(rt: &impl Print, request: EventRequest, page: Page) -> Page {
     let bytes = [
         request.minimum,
         request.most,
         request.confirmed,
         request.flag,
     ];
-    say::named(page, texts::POLL, &bytes)
+    say::named(rt, page, texts::POLL, &bytes)
 }
 
-pub(crate) fn write_poll(line: &[u8], at: usize, d: Desk) -> Desk {
+pub(crate) fn write_poll(rt: &impl Print, line: &[u8], at: usize, d: Desk) -> Desk {
     let read = polling::read_request(line, at);
     match read {
-        RequestRead::Wrong(why) => d.wrong(why),
-        RequestRead::Request(request) => d.with_page(write_request(request, d.room, d.page)),
+        RequestRead::Wrong(why) => d.wrong(rt, why),
+        RequestRead::Request(request) => d.with_page(write_request(rt, request, d.room, d.page)),
     }
 }
 
-fn write_request(request: EventRequest, room: usize, page: Page) -> Page {
+fn write_request(rt: &impl Print, request: EventRequest, room: usize, page: Page) -> Page {
     let mut out = [FILL; FULL];
     let w = eventrequests::write_event_request(request, lent(&mut out, room));
-    say::written(page, w, &out)
+    say::written(rt, page, w, &out)
 }
 
-pub(crate) fn write_no_events(room: usize, page: Page) -> Page {
+pub(crate) fn write_no_events(rt: &impl Print, room: usize, page: Page) -> Page {
     let mut out = [FILL; FULL];
     let w = packets::write_no_events(lent(&mut out, room));
-    say::written(page, w, &out)
+    say::written(rt, page, w, &out)
 }
 
 // What comes back for a poll, and each event that it lists.
-pub(crate) fn read_events(input: &[u8], page: Page) -> Page {
+pub(crate) fn read_events(rt: &impl Print, input: &[u8], page: Page) -> Page {
     let read = packets::read_events(input);
     match read {
         EventsRead::Packet {
@@ -63,25 +63,23 @@ pub(crate) fn read_events(input: &[u8], page: Page) -> Page {
             ..
         } => {
             let numbers = three(sender as u64, flag as u64, queued as u64);
-            let head = texts::text(page, texts::EVENTS, numbers);
-            say_listed(listed, input, first, say::skipped(head, skipped))
+            let head = texts::text(rt, page, texts::EVENTS, numbers);
+            say_listed(rt, listed, input, first, say::skipped(rt, head, skipped))
         }
         EventsRead::Nothing { skipped } => {
-            say::skipped(texts::plain(page, texts::NO_EVENTS), skipped)
+            say::skipped(rt, texts::plain(rt, page, texts::NO_EVENTS), skipped)
         }
-        EventsRead::Refused(why) => refused_frame(page, why, input),
+        EventsRead::Refused(why) => refused_frame(rt, page, why, input),
     }
 }
 
 // So many events from a position on.
-fn say_listed(n: usize, input: &[u8], first: usize, page: Page) -> Page {
+fn say_listed(rt: &impl Print, n: usize, input: &[u8], first: usize, page: Page) -> Page {
     let mut p = page;
     let mut at = first;
-    let mut left = n;
-    while left > 0 {
-        p = say_event(texts::EVENT_LISTED, input, at, p);
+    for _ in 0..n {
+        p = say_event(rt, texts::EVENT_LISTED, input, at, p);
         at = behind(input, at);
-        left -= 1;
     }
     p
 }

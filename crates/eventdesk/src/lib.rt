@@ -29,49 +29,49 @@ pub fn knows(name: &[u8]) -> bool {
     number_of(name) < 9
 }
 
-pub fn by_name(name: &[u8], line: &[u8], at: usize, d: Desk) -> Desk {
+pub fn by_name(rt: &impl Print, name: &[u8], line: &[u8], at: usize, d: Desk) -> Desk {
     let command = number_of(name);
     if command < 4 {
-        return with_words(command, line, at, d);
+        return with_words(rt, command, line, at, d);
     }
     if command < 7 {
-        return on_bytes(command, line, at, d);
+        return on_bytes(rt, command, line, at, d);
     }
-    alone(command, line, at, d)
+    alone(rt, command, line, at, d)
 }
 
-fn with_words(command: usize, line: &[u8], at: usize, d: Desk) -> Desk {
+fn with_words(rt: &impl Print, command: usize, line: &[u8], at: usize, d: Desk) -> Desk {
     match command {
-        0 => queueing::event(line, at, d),
-        1 => queueing::stored(line, at, d),
-        2 => polling::poll(line, at, d),
-        _ => frames::write_poll(line, at, d),
+        0 => queueing::event(rt, line, at, d),
+        1 => queueing::stored(rt, line, at, d),
+        2 => polling::poll(rt, line, at, d),
+        _ => frames::write_poll(rt, line, at, d),
     }
 }
 
-fn on_bytes(command: usize, line: &[u8], at: usize, d: Desk) -> Desk {
+fn on_bytes(rt: &impl Print, command: usize, line: &[u8], at: usize, d: Desk) -> Desk {
     let mut store = [0u8; hex::MOST];
     let read = hex::bytes(line, at, &mut store);
     match read {
-        BytesRead::Bytes(n) => with_bytes(command, start_of(&store, n), d),
-        BytesRead::Wrong(why) => d.wrong(why),
+        BytesRead::Bytes(n) => with_bytes(rt, command, start_of(&store, n), d),
+        BytesRead::Wrong(why) => d.wrong(rt, why),
     }
 }
 
-fn with_bytes(command: usize, input: &[u8], d: Desk) -> Desk {
+fn with_bytes(rt: &impl Print, command: usize, input: &[u8], d: Desk) -> Desk {
     match command {
-        4 => polling::ask(Asked::Frame, input, d),
-        5 => d.with_page(frames::read_poll(input, d.page)),
-        _ => d.with_page(frames::read_events(input, d.page)),
+        4 => polling::ask(rt, Asked::Frame, input, d),
+        5 => d.with_page(frames::read_poll(rt, input, d.page)),
+        _ => d.with_page(frames::read_events(rt, input, d.page)),
     }
 }
 
-fn alone(command: usize, line: &[u8], at: usize, d: Desk) -> Desk {
+fn alone(rt: &impl Print, command: usize, line: &[u8], at: usize, d: Desk) -> Desk {
     if word::more(line, at) {
-        return d.extra(line, at);
+        return d.extra(rt, line, at);
     }
     match command {
-        7 => showing::show(d),
-        _ => d.with_page(frames::write_no_events(d.room, d.page)),
+        7 => showing::show(rt, d),
+        _ => d.with_page(frames::write_no_events(rt, d.room, d.page)),
     }
 }

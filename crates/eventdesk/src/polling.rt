@@ -29,11 +29,11 @@ pub(crate) fn read_request(line: &[u8], at: usize) -> RequestRead {
     }
 }
 
-pub(crate) fn poll(line: &[u8], at: usize, d: Desk) -> Desk {
+pub(crate) fn poll(rt: &impl Print, line: &[u8], at: usize, d: Desk) -> Desk {
     let read = read_request(line, at);
     match read {
-        RequestRead::Wrong(why) => d.wrong(why),
-        RequestRead::Request(request) => ask(Asked::Poll(request), b"", d),
+        RequestRead::Wrong(why) => d.wrong(rt, why),
+        RequestRead::Request(request) => ask(rt, Asked::Poll(request), b"", d),
     }
 }
 
@@ -44,14 +44,14 @@ pub(crate) enum Asked {
     Frame,
 }
 
-pub(crate) fn ask(asked: Asked, frame: &[u8], d: Desk) -> Desk {
+pub(crate) fn ask(rt: &impl Print, asked: Asked, frame: &[u8], d: Desk) -> Desk {
     let mut answer = [FILL; FULL];
     let table = d.table;
     let queues = d.queues;
     let after = asking(asked, frame, table, queues, lent(&mut answer, d.room));
     let left = after.queues;
     let polled = after.polled;
-    d.with_queues(left, say_polled(polled, frame, &answer, d.page))
+    d.with_queues(left, say_polled(rt, polled, frame, &answer, d.page))
 }
 
 // What a poll gave, and the queues that it left.
@@ -114,25 +114,25 @@ fn response(
     }
 }
 
-fn say_polled(polled: Polled, frame: &[u8], answer: &[u8], page: Page) -> Page {
+fn say_polled(rt: &impl Print, polled: Polled, frame: &[u8], answer: &[u8], page: Page) -> Page {
     match polled {
         Polled::Packet {
             skipped,
             length,
             ..
-        } => say_answer(skipped, start_of(answer, length), page),
+        } => say_answer(rt, skipped, start_of(answer, length), page),
         Polled::Nothing {
             skipped,
             length,
             ..
-        } => say_answer(skipped, start_of(answer, length), page),
-        Polled::Silent => texts::plain(page, texts::SILENCE),
-        Polled::Refused(why) => refused_frame(page, why, frame),
+        } => say_answer(rt, skipped, start_of(answer, length), page),
+        Polled::Silent => texts::plain(rt, page, texts::SILENCE),
+        Polled::Refused(why) => refused_frame(rt, page, why, frame),
     }
 }
 
 // An answer, and below it how many FF it begins with.
-fn say_answer(skipped: usize, answer: &[u8], page: Page) -> Page {
-    let said = say::named(page, texts::ANSWER, answer);
-    texts::text(said, texts::SKIPPED_BELOW, one(skipped as u64))
+fn say_answer(rt: &impl Print, skipped: usize, answer: &[u8], page: Page) -> Page {
+    let said = say::named(rt, page, texts::ANSWER, answer);
+    texts::text(rt, said, texts::SKIPPED_BELOW, one(skipped as u64))
 }

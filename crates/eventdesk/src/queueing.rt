@@ -69,30 +69,30 @@ fn read_head(line: &[u8], at: usize) -> HeadRead {
     HeadRead::Head(head, data_at)
 }
 
-pub(crate) fn event(line: &[u8], at: usize, d: Desk) -> Desk {
+pub(crate) fn event(rt: &impl Print, line: &[u8], at: usize, d: Desk) -> Desk {
     let read = read_head(line, at);
     match read {
-        HeadRead::Wrong(why) => d.wrong(why),
-        HeadRead::Head(head, data_at) => event_behind(head, line, data_at, d),
+        HeadRead::Wrong(why) => d.wrong(rt, why),
+        HeadRead::Head(head, data_at) => event_behind(rt, head, line, data_at, d),
     }
 }
 
-fn event_behind(head: Head, line: &[u8], data_at: usize, d: Desk) -> Desk {
+fn event_behind(rt: &impl Print, head: Head, line: &[u8], data_at: usize, d: Desk) -> Desk {
     let mut store = [0u8; hex::MOST];
     let read = hex::bytes(line, data_at, &mut store);
     match read {
-        BytesRead::Wrong(why) => d.wrong(why),
-        BytesRead::Bytes(n) => add(head, start_of(&store, n), d),
+        BytesRead::Wrong(why) => d.wrong(rt, why),
+        BytesRead::Bytes(n) => add(rt, head, start_of(&store, n), d),
     }
 }
 
-fn add(head: Head, data: &[u8], d: Desk) -> Desk {
+fn add(rt: &impl Print, head: Head, data: &[u8], d: Desk) -> Desk {
     let table = d.table;
     let queues = d.queues;
     let after = with_event(head, data, table, queues);
     let left = after.queues;
     let added = after.added;
-    say_added(added, d.with_queues(left, d.page))
+    say_added(rt, added, d.with_queues(left, d.page))
 }
 
 // What a new event gave, and the queues that it left.
@@ -153,27 +153,27 @@ fn put(
     )
 }
 
-fn say_added(added: Added, d: Desk) -> Desk {
+fn say_added(rt: &impl Print, added: Added, d: Desk) -> Desk {
     match added {
-        Added::Done => d.ok(),
-        Added::Refused(why) => d.with_page(say::refused(d.page, why)),
+        Added::Done => d.ok(rt),
+        Added::Refused(why) => d.with_page(say::refused(rt, d.page, why)),
     }
 }
 
 // ---- a row as it stands
 
 // The row, its flag, its last packet and how many events are queued.
-pub(crate) fn stored(line: &[u8], at: usize, d: Desk) -> Desk {
+pub(crate) fn stored(rt: &impl Print, line: &[u8], at: usize, d: Desk) -> Desk {
     let read = last_four(line, at, false);
     match read {
-        FourRead::Wrong(why) => d.wrong(why),
+        FourRead::Wrong(why) => d.wrong(rt, why),
         FourRead::Bytes(four, _) => {
             let table = d.table;
             if table.rows <= four.first as usize {
                 let w = word::next(line, at);
-                return d.wrong_at(NO_ROW, w.from);
+                return d.wrong_at(rt, NO_ROW, w.from);
             }
-            d.with_queues(with_row(four, d.queues), d.page).ok()
+            d.with_queues(with_row(four, d.queues), d.page).ok(rt)
         }
     }
 }

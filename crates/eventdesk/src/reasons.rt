@@ -29,41 +29,37 @@ pub const OF_TABLE: u8 = 3;
 pub const OF_QUEUES: u8 = 7;
 
 // Says which of the first so many rules fails, and closes the bracket.
-pub fn say(rules: u8, table: Table, queues: Queues, page: Page) -> Page {
+pub fn say(rt: &impl Print, rules: u8, table: Table, queues: Queues, page: Page) -> Page {
     let rows = table.rows;
     if MOST_DEVICES < rows {
-        return texts::text(page, texts::ROWS_OVER, one(rows as u64));
+        return texts::text(rt, page, texts::ROWS_OVER, one(rows as u64));
     }
     let rule = first_rule(rules, table, queues);
     let row = first_row(rule, table, queues);
     let why = reason_at(rule, row, table, queues);
     let numbers = why.numbers;
-    texts::text(page, why.text, numbers)
+    texts::text(rt, page, why.text, numbers)
 }
 
 // The first of so many rules that fails at some row.
 fn first_rule(rules: u8, table: Table, queues: Queues) -> u8 {
-    let mut rule = 0;
-    while rule < rules {
+    for rule in 0..rules {
         if first_row(rule, table, queues) < table.rows {
             return rule;
         }
-        rule += 1;
     }
-    rule
+    rules
 }
 
 // The first row at which this rule fails, or how many there are.
 fn first_row(rule: u8, table: Table, queues: Queues) -> usize {
     let rows = table.rows;
-    let mut row = 0;
-    while row < rows {
+    for row in 0..rows {
         if fails(rule, row, table, queues) {
             return row;
         }
-        row += 1;
     }
-    row
+    rows
 }
 
 fn fails(rule: u8, row: usize, table: Table, queues: Queues) -> bool {
@@ -82,14 +78,12 @@ fn fails(rule: u8, row: usize, table: Table, queues: Queues) -> bool {
 
 // The first row before this one that has the same serial, or address, or this one.
 fn earlier(rule: u8, row: usize, table: Table) -> usize {
-    let mut i = 0;
-    while i < row {
+    for i in 0..row {
         if alike(rule, i, row, table) {
             return i;
         }
-        i += 1;
     }
-    i
+    row
 }
 
 fn alike(rule: u8, one: usize, other: usize, table: Table) -> bool {
@@ -130,8 +124,7 @@ fn first_slot(row: usize, queues: Queues) -> u8 {
 }
 
 fn wrong_slot(slots: &[u8], count: u8) -> u8 {
-    let mut i = 0;
-    while i < count {
+    for i in 0..count {
         let at = SLOT_LENGTH * i as usize;
         if byte_at(slots, at) > 1 {
             return i;
@@ -139,9 +132,8 @@ fn wrong_slot(slots: &[u8], count: u8) -> u8 {
         if byte_at(slots, at + 1) as usize > MOST_DATA {
             return i;
         }
-        i += 1;
     }
-    i
+    count
 }
 
 // A text, and the numbers that it is filled with.

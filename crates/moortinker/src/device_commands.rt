@@ -44,10 +44,10 @@ fn read_row(line: &[u8], at: usize) -> RowRead {
     }
 }
 
-pub(crate) fn device(line: &[u8], at: usize, d: Desk) -> Desk {
+pub(crate) fn device(rt: &impl Print, line: &[u8], at: usize, d: Desk) -> Desk {
     let read = read_row(line, at);
     match read {
-        RowRead::Wrong(why) => d.wrong(why),
+        RowRead::Wrong(why) => d.wrong(rt, why),
         RowRead::Row {
             serial,
             address,
@@ -56,7 +56,7 @@ pub(crate) fn device(line: &[u8], at: usize, d: Desk) -> Desk {
             let table = d.table;
             let row = table.rows;
             if MOST_ROWS <= row {
-                return d.wrong_at(TABLE_FULL, at);
+                return d.wrong_at(rt, TABLE_FULL, at);
             }
             let mut serials = table.serials;
             let mut addresses = table.addresses;
@@ -70,12 +70,12 @@ pub(crate) fn device(line: &[u8], at: usize, d: Desk) -> Desk {
                 addresses,
                 marks,
             };
-            d.with_table(longer).ok()
+            d.with_table(longer).ok(rt)
         }
     }
 }
 
-pub(crate) fn show(d: Desk) -> Desk {
+pub(crate) fn show(rt: &impl Print, d: Desk) -> Desk {
     let table = d.table;
     let rows = table.rows;
     let serials = table.serials;
@@ -84,12 +84,13 @@ pub(crate) fn show(d: Desk) -> Desk {
     let s = serials_of(&serials, rows);
     let a = column(&addresses, rows);
     let m = column(&marks, rows);
-    let head = say_valid(table::valid(s, a, m), OF_TABLE, d);
-    d.with_page(say_rows(rows, s, a, m, head))
+    let head = say_valid(rt, table::valid(s, a, m), OF_TABLE, d);
+    d.with_page(say_rows(rt, rows, s, a, m, head))
 }
 
 // The first n rows.
 fn say_rows<'a>(
+    rt: &impl Print,
     n: usize,
     serials: &'a [u32],
     addresses: &'a [u8],
@@ -97,16 +98,21 @@ fn say_rows<'a>(
     page: Page,
 ) -> Page {
     let mut p = page;
-    let mut i = 0;
-    while i < n {
-        p = say_row(i, serials, addresses, marks, p);
-        i += 1;
+    for i in 0..n {
+        p = say_row(rt, i, serials, addresses, marks, p);
     }
     p
 }
 
 // A row of the table has a mark. A device that a scan found has none.
-fn say_row(i: usize, serials: &[u32], addresses: &[u8], marks: &[u8], page: Page) -> Page {
+fn say_row(
+    rt: &impl Print,
+    i: usize,
+    serials: &[u32],
+    addresses: &[u8],
+    marks: &[u8],
+    page: Page,
+) -> Page {
     if serials.len() <= i {
         return page;
     }
@@ -114,18 +120,23 @@ fn say_row(i: usize, serials: &[u32], addresses: &[u8], marks: &[u8], page: Page
         return page;
     }
     if marks.len() <= i {
-        return say_found(serials[i], addresses[i], page);
+        return say_found(rt, serials[i], addresses[i], page);
     }
-    say_marked(serials[i], addresses[i], marks[i], page)
+    say_marked(rt, serials[i], addresses[i], marks[i], page)
 }
 
-fn say_found(serial: u32, address: u8, page: Page) -> Page {
-    texts::text(page, texts::ROW_FOUND, two(serial as u64, address as u64))
+fn say_found(rt: &impl Print, serial: u32, address: u8, page: Page) -> Page {
+    texts::text(
+        rt,
+        page,
+        texts::ROW_FOUND,
+        two(serial as u64, address as u64),
+    )
 }
 
-fn say_marked(serial: u32, address: u8, mark: u8, page: Page) -> Page {
+fn say_marked(rt: &impl Print, serial: u32, address: u8, mark: u8, page: Page) -> Page {
     let row = three(serial as u64, address as u64, mark as u64);
-    texts::text(page, texts::ROW_MARKED, row)
+    texts::text(rt, page, texts::ROW_MARKED, row)
 }
 
 // ---- requests
@@ -138,11 +149,11 @@ pub(crate) enum Asked {
     Frame,
 }
 
-pub(crate) fn request(asked: Asked, d: Desk) -> Desk {
-    ask(asked, b"", d)
+pub(crate) fn request(rt: &impl Print, asked: Asked, d: Desk) -> Desk {
+    ask(rt, asked, b"", d)
 }
 
-fn ask(asked: Asked, frame: &[u8], d: Desk) -> Desk {
+fn ask(rt: &impl Print, asked: Asked, frame: &[u8], d: Desk) -> Desk {
     let mut answer = [FILL; FULL];
     let table = d.table;
     let mut marks = table.marks;
@@ -153,16 +164,16 @@ fn ask(asked: Asked, frame: &[u8], d: Desk) -> Desk {
         lent(&mut marks, table.rows),
         lent(&mut answer, d.room),
     );
-    let page = say_answer(a, frame, &answer, d.page);
+    let page = say_answer(rt, a, frame, &answer, d.page);
     d.with_table(table.with_marks(marks)).with_page(page)
 }
 
-pub(crate) fn offer(line: &[u8], at: usize, d: Desk) -> Desk {
+pub(crate) fn offer(rt: &impl Print, line: &[u8], at: usize, d: Desk) -> Desk {
     let mut store = [0u8; hex::MOST];
     let read = hex::bytes(line, at, &mut store);
     match read {
-        BytesRead::Bytes(n) => ask(Asked::Frame, start_of(&store, n), d),
-        BytesRead::Wrong(why) => d.wrong(why),
+        BytesRead::Bytes(n) => ask(rt, Asked::Frame, start_of(&store, n), d),
+        BytesRead::Wrong(why) => d.wrong(rt, why),
     }
 }
 
@@ -185,22 +196,22 @@ fn response(
     }
 }
 
-fn say_answer(a: Response, frame: &[u8], answer: &[u8], page: Page) -> Page {
+fn say_answer(rt: &impl Print, a: Response, frame: &[u8], answer: &[u8], page: Page) -> Page {
     match a {
-        Response::Answered(n) => say::named(page, texts::ANSWER, start_of(answer, n)),
-        Response::Silent => texts::plain(page, texts::SILENCE),
-        Response::Refused(why) => refused_frame(page, why, frame),
+        Response::Answered(n) => say::named(rt, page, texts::ANSWER, start_of(answer, n)),
+        Response::Silent => texts::plain(rt, page, texts::SILENCE),
+        Response::Refused(why) => refused_frame(rt, page, why, frame),
     }
 }
 
 // ---- a whole scan
 
-pub(crate) fn scan(line: &[u8], at: usize, d: Desk) -> Desk {
+pub(crate) fn scan(rt: &impl Print, line: &[u8], at: usize, d: Desk) -> Desk {
     let read = last_number(line, at, u64::MAX);
     match read {
-        NumberRead::Wrong(why) => d.wrong(why),
+        NumberRead::Wrong(why) => d.wrong(rt, why),
         NumberRead::Number(cap, _) => {
-            let after = scanned(cap as usize, d.table, d.room, d.page);
+            let after = scanned(rt, cap as usize, d.table, d.room, d.page);
             d.with_table(after.table).with_page(after.page)
         }
     }
@@ -213,7 +224,7 @@ struct AfterScan {
     page: Page,
 }
 
-fn scanned(cap: usize, table: Table, room: usize, page: Page) -> AfterScan {
+fn scanned(rt: &impl Print, cap: usize, table: Table, room: usize, page: Page) -> AfterScan {
     let mut found_serials = [0x5A5A5A5Au32; MOST_ROOM];
     let mut found_addresses = [FILL; MOST_ROOM];
     let rows = table.rows;
@@ -230,7 +241,7 @@ fn scanned(cap: usize, table: Table, room: usize, page: Page) -> AfterScan {
     );
     AfterScan {
         table: table.with_marks(marks),
-        page: say_scan(s, &found_serials, &found_addresses, page),
+        page: say_scan(rt, s, &found_serials, &found_addresses, page),
     }
 }
 
@@ -255,27 +266,39 @@ fn ended(text: u8, requests: usize, skipped: usize, heard: usize) -> Ending {
 
 // A complete scan has heard one device fewer than it sent requests: the last was answered by the
 // end. An unfinished one has heard a device at each request.
-fn say_scan<'a>(s: Scanned, serials: &'a [u32], addresses: &'a [u8], page: Page) -> Page {
+fn say_scan<'a>(
+    rt: &impl Print,
+    s: Scanned,
+    serials: &'a [u32],
+    addresses: &'a [u8],
+    page: Page,
+) -> Page {
     match s {
         Scanned::Complete { requests, skipped } => {
             let heard = if requests == 0 { 0 } else { requests - 1 };
             let e = ended(texts::COMPLETE, requests, skipped, heard);
-            say_ending(e, serials, addresses, page)
+            say_ending(rt, e, serials, addresses, page)
         }
         Scanned::Nobody { requests, skipped } => {
             let e = ended(texts::NOBODY, requests, skipped, 0);
-            say_ending(e, serials, addresses, page)
+            say_ending(rt, e, serials, addresses, page)
         }
         Scanned::Unfinished { requests, skipped } => {
             let e = ended(texts::UNFINISHED, requests, skipped, requests);
-            say_ending(e, serials, addresses, page)
+            say_ending(rt, e, serials, addresses, page)
         }
-        Scanned::Refused(why) => say::refused(page, why),
+        Scanned::Refused(why) => say::refused(rt, page, why),
     }
 }
 
-fn say_ending<'a>(e: Ending, serials: &'a [u32], addresses: &'a [u8], page: Page) -> Page {
-    let sent = texts::text(page, e.text, one(e.requests as u64));
-    let said = say::skipped(sent, e.skipped);
-    say_rows(e.heard, serials, addresses, b"", said)
+fn say_ending<'a>(
+    rt: &impl Print,
+    e: Ending,
+    serials: &'a [u32],
+    addresses: &'a [u8],
+    page: Page,
+) -> Page {
+    let sent = texts::text(rt, page, e.text, one(e.requests as u64));
+    let said = say::skipped(rt, sent, e.skipped);
+    say_rows(rt, e.heard, serials, addresses, b"", said)
 }

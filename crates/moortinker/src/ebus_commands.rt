@@ -9,40 +9,40 @@ use desk::state::{Desk, FILL, FULL};
 use desk::{hex, say, texts, word};
 use exchange::judge::Judged;
 
-pub(crate) fn check(input: &[u8], page: Page) -> Page {
+pub(crate) fn check(rt: &impl Print, input: &[u8], page: Page) -> Page {
     let byte = checkbyte::ebus_check(input);
-    texts::text(page, texts::EBUS_CHECK, one(byte as u64))
+    texts::text(rt, page, texts::EBUS_CHECK, one(byte as u64))
 }
 
-pub(crate) fn expand(input: &[u8], room: usize, page: Page) -> Page {
+pub(crate) fn expand(rt: &impl Print, input: &[u8], room: usize, page: Page) -> Page {
     let mut out = [FILL; FULL];
     let w = escapes::expand(input, lent(&mut out, room));
-    say::written(page, w, &out)
+    say::written(rt, page, w, &out)
 }
 
-pub(crate) fn undo(input: &[u8], room: usize, page: Page) -> Page {
+pub(crate) fn undo(rt: &impl Print, input: &[u8], room: usize, page: Page) -> Page {
     let mut out = [FILL; FULL];
     let w = escapes::undo(input, lent(&mut out, room));
-    say::written(page, w, &out)
+    say::written(rt, page, w, &out)
 }
 
-pub(crate) fn write_reply(input: &[u8], room: usize, page: Page) -> Page {
+pub(crate) fn write_reply(rt: &impl Print, input: &[u8], room: usize, page: Page) -> Page {
     let mut out = [FILL; FULL];
     let w = sending::write_reply(input, lent(&mut out, room));
-    say::written(page, w, &out)
+    say::written(rt, page, w, &out)
 }
 
-pub(crate) fn kind(line: &[u8], at: usize, d: Desk) -> Desk {
+pub(crate) fn kind(rt: &impl Print, line: &[u8], at: usize, d: Desk) -> Desk {
     let read = one_byte(line, at);
     match read {
-        NumberRead::Wrong(why) => d.wrong(why),
+        NumberRead::Wrong(why) => d.wrong(rt, why),
         NumberRead::Number(destination, next) => {
             if word::more(line, next) {
-                return d.extra(line, next);
+                return d.extra(rt, line, next);
             }
             let found = addresses::kind((destination % 256) as u8);
-            let said = texts::plain(d.page, kind_text(found));
-            d.with_page(say::byte(said, b'\n'))
+            let said = texts::plain(rt, d.page, kind_text(found));
+            d.with_page(say::byte(rt, said, b'\n'))
         }
     }
 }
@@ -57,7 +57,7 @@ fn kind_text(k: ExchangeKind) -> u8 {
 
 // ---- the judge
 
-pub(crate) fn judge(run: &[u8], room: usize, page: Page) -> Page {
+pub(crate) fn judge(rt: &impl Print, run: &[u8], room: usize, page: Page) -> Page {
     let mut command = [FILL; FULL];
     let mut first = [FILL; FULL];
     let mut second = [FILL; FULL];
@@ -68,6 +68,7 @@ pub(crate) fn judge(run: &[u8], room: usize, page: Page) -> Page {
         lent(&mut second, room),
     );
     say_judged(
+        rt,
         judged,
         run,
         0,
@@ -80,6 +81,7 @@ pub(crate) fn judge(run: &[u8], room: usize, page: Page) -> Page {
 
 // `before` bytes were heard before those of the run.
 pub(crate) fn say_judged<'a>(
+    rt: &impl Print,
     judged: Judged,
     run: &'a [u8],
     before: usize,
@@ -89,14 +91,14 @@ pub(crate) fn say_judged<'a>(
     page: Page,
 ) -> Page {
     match judged {
-        Judged::Refused(why) => refused_run(page, why, run, before),
+        Judged::Refused(why) => refused_run(rt, page, why, run, before),
         Judged::Accepted(kind, commands, replies, bytes) => {
-            let a = texts::plain(page, texts::ACCEPTED);
-            let b = texts::plain(a, kind_text(kind));
+            let a = texts::plain(rt, page, texts::ACCEPTED);
+            let b = texts::plain(rt, a, kind_text(kind));
             let attempts = three(commands as u64, replies as u64, bytes as u64);
-            let c = texts::text(b, texts::ATTEMPTS, attempts);
-            let d = telegram(texts::COMMAND, command, 4, c);
-            say_replies(first, second, replies, d)
+            let c = texts::text(rt, b, texts::ATTEMPTS, attempts);
+            let d = telegram(rt, texts::COMMAND, command, 4, c);
+            say_replies(rt, first, second, replies, d)
         }
     }
 }
@@ -111,48 +113,54 @@ fn telegram_length(buffer: &[u8], at: usize) -> usize {
 }
 
 // A line with the telegram at the start of a buffer.
-fn telegram(name: u8, buffer: &[u8], at: usize, page: Page) -> Page {
+fn telegram(rt: &impl Print, name: u8, buffer: &[u8], at: usize, page: Page) -> Page {
     let n = telegram_length(buffer, at);
-    say::named(page, name, start_of(buffer, n))
+    say::named(rt, page, name, start_of(buffer, n))
 }
 
 // The replies that happened, and the data of the one that was acknowledged.
-fn say_replies<'a>(first: &'a [u8], second: &'a [u8], replies: u8, page: Page) -> Page {
+fn say_replies<'a>(
+    rt: &impl Print,
+    first: &'a [u8],
+    second: &'a [u8],
+    replies: u8,
+    page: Page,
+) -> Page {
     let data = replies::reply_data(first, second, replies);
     if replies < 1 {
-        return say::named(page, texts::DATA, data);
+        return say::named(rt, page, texts::DATA, data);
     }
-    let a = telegram(texts::REPLY_1, first, 0, page);
+    let a = telegram(rt, texts::REPLY_1, first, 0, page);
     if replies < 2 {
-        return say::named(a, texts::DATA, data);
+        return say::named(rt, a, texts::DATA, data);
     }
-    let b = telegram(texts::REPLY_2, second, 0, a);
-    say::named(b, texts::DATA, data)
+    let b = telegram(rt, texts::REPLY_2, second, 0, a);
+    say::named(rt, b, texts::DATA, data)
 }
 
 // ---- writing a command: SRC, DST, PB and SB, then the data
 
-pub(crate) fn write_command(line: &[u8], at: usize, d: Desk) -> Desk {
+pub(crate) fn write_command(rt: &impl Print, line: &[u8], at: usize, d: Desk) -> Desk {
     let read = four_bytes(line, at, true);
     match read {
-        FourRead::Wrong(why) => d.wrong(why),
-        FourRead::Bytes(head, data_at) => write_behind(head, line, data_at, d),
+        FourRead::Wrong(why) => d.wrong(rt, why),
+        FourRead::Bytes(head, data_at) => write_behind(rt, head, line, data_at, d),
     }
 }
 
-fn write_behind(head: Four, line: &[u8], data_at: usize, d: Desk) -> Desk {
+fn write_behind(rt: &impl Print, head: Four, line: &[u8], data_at: usize, d: Desk) -> Desk {
     let mut store = [0u8; hex::MOST];
     let read = hex::bytes(line, data_at, &mut store);
     match read {
-        BytesRead::Wrong(why) => d.wrong(why),
+        BytesRead::Wrong(why) => d.wrong(rt, why),
         BytesRead::Bytes(n) => {
             let data = start_of(&store, n);
-            d.with_page(write_whole(head, data, d.room, d.page))
+            d.with_page(write_whole(rt, head, data, d.room, d.page))
         }
     }
 }
 
-fn write_whole(head: Four, data: &[u8], room: usize, page: Page) -> Page {
+fn write_whole(rt: &impl Print, head: Four, data: &[u8], room: usize, page: Page) -> Page {
     let mut out = [FILL; FULL];
     let w = sending::write_command(
         head.first,
@@ -162,5 +170,5 @@ fn write_whole(head: Four, data: &[u8], room: usize, page: Page) -> Page {
         data,
         lent(&mut out, room),
     );
-    say::written(page, w, &out)
+    say::written(rt, page, w, &out)
 }

@@ -3,17 +3,19 @@ use desk::say;
 use desk::say::Page;
 
 // One line on what this is, for a person at a terminal.
-pub(crate) fn greet(page: Page) -> Page {
+pub(crate) fn greet(rt: &impl Print, page: Page) -> Page {
     let a = say::put(
+        rt,
         page,
         b"Moortinker: one command a line, answered by the proved library.\n",
     );
-    commands(a)
+    commands(rt, a)
 }
 
 // How the program is started, and then the commands.
-pub(crate) fn usage(page: Page) -> Page {
+pub(crate) fn usage(rt: &impl Print, page: Page) -> Page {
     let a = say::put(
+        rt,
         page,
         b"usage
   moortinker            obey the commands on standard input, one a line
@@ -22,11 +24,12 @@ pub(crate) fn usage(page: Page) -> Page {
   moortinker --help     say this (or: -h, help)
 ",
     );
-    commands(a)
+    commands(rt, a)
 }
 
-pub(crate) fn commands(page: Page) -> Page {
+pub(crate) fn commands(rt: &impl Print, page: Page) -> Page {
     say::put(
+        rt,
         page,
         b"commands
   HEX                   any number of bytes, two hex digits each; blanks, or one : or ,

@@ -4,7 +4,7 @@
 // passed over to its end.
 ghost use Rattle.std.specs.Prelude.{◌≤◌, length};
 
-use libc::STDIN_FILENO;
+use std::io::Read;
 
 #[derive(Clone, Copy)]
 pub(crate) struct Window {
@@ -74,33 +74,27 @@ pub(crate) fn trimmed(input: &[u8], from: usize, to: usize) -> usize {
 
 // Moves the bytes from `from` to `to` to the front, and answers how many there are.
 pub(crate) fn move_down(input: &mut [u8], from: usize, to: usize) -> usize {
-    let mut i = from;
-    let mut n = 0;
-    while i < to {
+    for i in from..to {
         if input.len() <= i {
-            return n;
+            return i - from;
         }
-        let b = input[i];
-        i += 1;
-        input[n] = b;
-        n += 1;
+        input[i - from] = input[i];
     }
-    n
+    to.saturating_sub(from)
 }
 
 // Reads behind the first `held` bytes, and answers how many bytes are there then: no more where the
 // input has ended.
-pub(crate) fn read_behind(input: &mut [u8], held: usize) -> usize {
+pub(crate) fn read_behind(from: &mut impl Read, input: &mut [u8], held: usize) -> usize {
     if input.len() <= held {
         return held;
     }
-    held + read_into(&mut input[held..])
+    held + read_into(from, &mut input[held..])
 }
 
-// Reads once.
-fn read_into(free: &mut [u8]) -> usize
+// Reads once. An input that can't be read has ended.
+fn read_into(from: &mut impl Read, free: &mut [u8]) -> usize
     ensures { result ≤ length free.old }
 {
-    let got = libc::read(STDIN_FILENO, free);
-    io::count(got, free)
+    from.read(free).unwrap_or(0)
 }

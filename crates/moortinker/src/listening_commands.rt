@@ -7,14 +7,14 @@ use desk::state::{Desk, FILL, FULL};
 use desk::{heard, texts};
 use exchange::judge::Judged;
 
-pub(crate) fn listen(d: Desk) -> Desk {
+pub(crate) fn listen(rt: &impl Print, d: Desk) -> Desk {
     d.with_listening(listening::listen(), d.page)
         .with_heard(heard::nothing())
-        .ok()
+        .ok(rt)
 }
 
 // How many bytes of this run were used, and whether the answer is known now.
-pub(crate) fn feed(run: &[u8], d: Desk) -> Desk {
+pub(crate) fn feed(rt: &impl Print, run: &[u8], d: Desk) -> Desk {
     let fed = feeding::feed(d.listening, run);
     let state = fed.state;
     let heard = d.heard.and(start_of(run, fed.used));
@@ -23,12 +23,12 @@ pub(crate) fn feed(run: &[u8], d: Desk) -> Desk {
     } else {
         texts::USED_LISTENING
     };
-    let page = texts::text(d.page, said, one(fed.used as u64));
+    let page = texts::text(rt, d.page, said, one(fed.used as u64));
     d.with_listening(state, page).with_heard(heard)
 }
 
 // What the judge says of the bytes used so far.
-pub(crate) fn close(d: Desk) -> Desk {
+pub(crate) fn close(rt: &impl Print, d: Desk) -> Desk {
     let mut command = [FILL; FULL];
     let mut first = [FILL; FULL];
     let mut second = [FILL; FULL];
@@ -41,6 +41,7 @@ pub(crate) fn close(d: Desk) -> Desk {
     let answer = closed.answer;
     let state = closed.state;
     let page = say_closed(
+        rt,
         answer,
         d.heard,
         start_of(&command, d.room),
@@ -52,6 +53,7 @@ pub(crate) fn close(d: Desk) -> Desk {
 }
 
 fn say_closed<'a>(
+    rt: &impl Print,
     answer: Judged,
     heard: Heard,
     command: &'a [u8],
@@ -61,5 +63,5 @@ fn say_closed<'a>(
 ) -> Page {
     let bytes = heard.bytes;
     let run = start_of(&bytes, heard.kept);
-    say_judged(answer, run, heard.before, command, first, second, page)
+    say_judged(rt, answer, run, heard.before, command, first, second, page)
 }

@@ -10,11 +10,20 @@ mod line;
 mod listening_commands;
 mod modbus_commands;
 
+use desk::aside::{tell, tell_failure};
 use desk::fault::LINE_TOO_LONG;
 use desk::part::start_of;
 use desk::state::Desk;
 use desk::{say, state, word};
 use line::Window;
+use std::env::{Env, FillError};
+use std::io::{IsTerminal, Read};
+
+// Room for the argument that the program was started with. What is longer is not taken.
+const ARGUMENT: usize = 4096;
+
+// Room for what was read and is not yet obeyed.
+const INPUT: usize = 65536;
 
 // What the loop over lines carries. `over` says that there is no more to do.
 #[derive(Clone, Copy)]
@@ -24,101 +33,96 @@ struct State {
     over: bool,
 }
 
-fn main() {
-    if os::arg_count() < 2 {
-        let mut input = io::large_buffer();
-        session(&mut input);
-        return;
+fn main(rt: HostRuntime) {
+    let mut first = [0u8; ARGUMENT];
+    match rt.arg(1, &mut first) {
+        Ok(n) => started_with(&rt, start_of(&first, n)),
+        Err(FillError::TooLong) => started_with(&rt, b""),
+        Err(FillError::NotPresent) => session(&rt),
     }
-    let mut first = io::buffer();
-    let n = os::arg(1, &mut first);
-    started_with(start_of(&first, n));
 }
 
 // What the program was started with says what it does.
-fn started_with(argument: &[u8]) {
+fn started_with(rt: &HostRuntime, argument: &[u8]) {
     let asked = word::place(b"capture --help -h help", argument);
     match asked {
-        0 => capturedesk::from_arguments(),
-        1..=3 => usage(),
-        _ => not_taken(argument),
+        0 => capturedesk::from_arguments(rt),
+        1..=3 => usage(rt),
+        _ => not_taken(&rt.stderr(), argument),
     }
 }
 
-fn usage() {
+fn usage(rt: &HostRuntime) {
     let d = state::new();
-    finish(d.with_page(help::usage(d.page)));
+    finish(rt, d.with_page(help::usage(rt, d.page)));
 }
 
 // Another argument is named, on standard error.
-fn not_taken(argument: &[u8]) {
-    io::write_all(libc::STDERR_FILENO, b"moortinker: no such argument: ");
-    io::write_all(libc::STDERR_FILENO, argument);
-    io::write_all(
-        libc::STDERR_FILENO,
-        b"; moortinker --help says what it takes\n",
-    );
+fn not_taken(to: &impl Print, argument: &[u8]) {
+    tell(to, b"moortinker: no such argument: ");
+    tell(to, argument);
+    tell(to, b"; moortinker --help says what it takes\n");
 }
 
 // A person at a terminal is told what the commands are, and prompted.
-fn greeted(d: Desk) -> Desk {
-    if libc::isatty(libc::STDIN_FILENO) == 1 {
-        return d.with_page(help::greet(d.page)).prompting();
+fn greeted(rt: &HostRuntime, d: Desk) -> Desk {
+    if rt.stdin().is_terminal() {
+        return d.with_page(help::greet(rt, d.page)).prompting();
     }
     d
 }
 
 // What waits is written out. Where that fails, or has failed, the reason is said on standard error.
-fn finish(d: Desk) {
-    if d.written_out().failed() {
-        os::fail(b"moortinker: cannot write");
+fn finish(rt: &HostRuntime, d: Desk) {
+    if let Some(why) = d.written_out(rt).failure() {
+        tell_failure(&rt.stderr(), b"moortinker: cannot write", why);
     }
 }
 
-// A proved loop has to end, and nothing says that the input does. So the loop counts its turns
-// down, from a number that no run uses up.
-fn session(input: &mut [u8]) {
-    let mut turns = u64::MAX;
+// A proved loop has to end, and nothing says that the input does. So it takes a number of turns that no
+// run uses up.
+fn session(rt: &HostRuntime) {
+    let mut from = rt.stdin();
+    let mut input = [0u8; INPUT];
     let mut s = State {
         window: line::new(),
-        desk: greeted(state::new()),
+        desk: greeted(rt, state::new()),
         over: false,
     };
-    while turns > 0 {
-        turns -= 1;
-        s = turn(s, input);
+    for _ in 0..u64::MAX {
+        s = turn(rt, s, &mut from, &mut input);
         if s.over {
-            finish(s.desk);
+            finish(rt, s.desk);
             return;
         }
     }
 }
 
 // Obeys the next line where it is there whole, and otherwise reads more.
-fn turn(s: State, input: &mut [u8]) -> State {
+fn turn(rt: &impl Print, s: State, from: &mut impl Read, input: &mut [u8]) -> State {
     let window = s.window;
     let to = window.to;
     let end = word::end_of(input, window.from, to);
     if end < to {
-        let desk = obey(window, end, s.desk, input);
+        let desk = obey(rt, window, end, s.desk, input);
         return State {
             window: window.past(end),
             desk: desk.past_line(),
             over: desk.over || desk.failed(),
         };
     }
-    let next = more(s, input);
+    let next = more(rt, s, from, input);
     if next.over {
-        return last(next, input);
+        return last(rt, next, input);
     }
     next
 }
 
 // Reads more behind the part of a line that is there. What was answered so far is written out
 // first, so that a person at a terminal sees it before the tool waits.
-fn more(s: State, input: &mut [u8]) -> State {
+fn more(rt: &impl Print, s: State, source: &mut impl Read, input: &mut [u8]) -> State {
     let window = s.window;
-    let desk = prompted(window, s.desk).written_out();
+    let desk = prompted(rt, window, s.desk).written_out(rt);
     if desk.failed() {
         return State {
             window: line::new(),
@@ -135,11 +139,11 @@ fn more(s: State, input: &mut [u8]) -> State {
     if input.len() <= held {
         return State {
             window: window.too_long(),
-            desk: desk.wrong_at(LINE_TOO_LONG, 0),
+            desk: desk.wrong_at(rt, LINE_TOO_LONG, 0),
             over: false,
         };
     }
-    let to = line::read_behind(input, held);
+    let to = line::read_behind(source, input, held);
     State {
         window: window.holding(to),
         desk,
@@ -148,7 +152,7 @@ fn more(s: State, input: &mut [u8]) -> State {
 }
 
 // A person is prompted where a line begins.
-fn prompted(window: Window, d: Desk) -> Desk {
+fn prompted(rt: &impl Print, window: Window, d: Desk) -> Desk {
     if window.skipping {
         return d;
     }
@@ -156,36 +160,36 @@ fn prompted(window: Window, d: Desk) -> Desk {
         return d;
     }
     if d.prompt {
-        return d.with_page(say::put(d.page, b"> "));
+        return d.with_page(say::put(rt, d.page, b"> "));
     }
     d
 }
 
 // The prompt that was not followed by a line is ended.
-fn unprompted(d: Desk) -> Desk {
+fn unprompted(rt: &impl Print, d: Desk) -> Desk {
     if d.prompt {
-        return d.with_page(say::byte(d.page, b'\n'));
+        return d.with_page(say::byte(rt, d.page, b'\n'));
     }
     d
 }
 
 // The input has ended: what is left is a line without its newline.
-fn last(s: State, input: &[u8]) -> State {
+fn last(rt: &impl Print, s: State, input: &[u8]) -> State {
     let window = s.window;
-    let desk = obey(window, window.to, s.desk, input);
+    let desk = obey(rt, window, window.to, s.desk, input);
     State {
         window,
-        desk: unprompted(desk),
+        desk: unprompted(rt, desk),
         over: true,
     }
 }
 
 // Obeys the line that ends at `end`, unless the rest of one that is too long is passed over.
-fn obey(window: Window, end: usize, d: Desk, input: &[u8]) -> Desk {
+fn obey(rt: &impl Print, window: Window, end: usize, d: Desk, input: &[u8]) -> Desk {
     if window.skipping {
         return d;
     }
     let from = window.from;
     let to = line::trimmed(input, from, end);
-    commands::answer(word::part(input, from, to), d)
+    commands::answer(rt, word::part(input, from, to), d)
 }

@@ -31,18 +31,18 @@ pub fn takes_text(name: &[u8]) -> bool {
     number_of(name) < 2
 }
 
-pub fn by_name(name: &[u8], line: &[u8], at: usize, d: Desk) -> Desk {
+pub fn by_name(rt: &impl Print, name: &[u8], line: &[u8], at: usize, d: Desk) -> Desk {
     let command = number_of(name);
     if command < 2 {
-        return with_packet(command == 0, rest_of(line, at), d);
+        return with_packet(rt, command == 0, rest_of(line, at), d);
     }
     if command < 4 {
-        return on_bytes(command == 2, line, at, d);
+        return on_bytes(rt, command == 2, line, at, d);
     }
     if command < 7 {
-        return with_words(command, line, at, d);
+        return with_words(rt, command, line, at, d);
     }
-    alone(command, line, at, d)
+    alone(rt, command, line, at, d)
 }
 
 // The rest of the line as it stands, without the blanks before it.
@@ -52,36 +52,36 @@ fn rest_of(line: &[u8], at: usize) -> &[u8] {
 }
 
 // A packet is read, or offered to the device.
-fn with_packet(reading: bool, packet: &[u8], d: Desk) -> Desk {
+fn with_packet(rt: &impl Print, reading: bool, packet: &[u8], d: Desk) -> Desk {
     if reading {
-        return d.with_page(packets::read(packet, d.page));
+        return d.with_page(packets::read(rt, packet, d.page));
     }
-    device::call(false, packet, d)
+    device::call(rt, false, packet, d)
 }
 
-fn on_bytes(reading: bool, line: &[u8], at: usize, d: Desk) -> Desk {
+fn on_bytes(rt: &impl Print, reading: bool, line: &[u8], at: usize, d: Desk) -> Desk {
     let mut store = [0u8; hex::MOST];
     let read = hex::bytes(line, at, &mut store);
     match read {
-        BytesRead::Bytes(n) => with_packet(reading, start_of(&store, n), d),
-        BytesRead::Wrong(why) => d.wrong(why),
+        BytesRead::Bytes(n) => with_packet(rt, reading, start_of(&store, n), d),
+        BytesRead::Wrong(why) => d.wrong(rt, why),
     }
 }
 
-fn with_words(command: usize, line: &[u8], at: usize, d: Desk) -> Desk {
+fn with_words(rt: &impl Print, command: usize, line: &[u8], at: usize, d: Desk) -> Desk {
     match command {
-        4 => packets::write(line, at, d),
-        5 => device::relay(line, at, d),
-        _ => device::register(line, at, d),
+        4 => packets::write(rt, line, at, d),
+        5 => device::relay(rt, line, at, d),
+        _ => device::register(rt, line, at, d),
     }
 }
 
-fn alone(command: usize, line: &[u8], at: usize, d: Desk) -> Desk {
+fn alone(rt: &impl Print, command: usize, line: &[u8], at: usize, d: Desk) -> Desk {
     if word::more(line, at) {
-        return d.extra(line, at);
+        return d.extra(rt, line, at);
     }
     match command {
-        7 => device::call(true, b"", d),
-        _ => device::show(d),
+        7 => device::call(rt, true, b"", d),
+        _ => device::show(rt, d),
     }
 }

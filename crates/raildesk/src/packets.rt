@@ -10,24 +10,24 @@ use lists::byte_at;
 use railbus::{Message, Packet, PacketRead};
 use refusal::Written;
 
-pub(crate) fn read(input: &[u8], page: Page) -> Page {
+pub(crate) fn read(rt: &impl Print, input: &[u8], page: Page) -> Page {
     let read = railbus::read_packet(input);
     match read {
-        PacketRead::Found(packet, examined) => say_packet(packet, examined, page),
-        PacketRead::Refused(why) => refused_packet(page, why, input),
+        PacketRead::Found(packet, examined) => say_packet(rt, packet, examined, page),
+        PacketRead::Refused(why) => refused_packet(rt, page, why, input),
     }
 }
 
-fn say_packet(packet: Packet, examined: bool, page: Page) -> Page {
+fn say_packet(rt: &impl Print, packet: Packet, examined: bool, page: Page) -> Page {
     let message = packet.message;
-    let letter = say::byte(page, railbus::letter_of(message));
+    let letter = say::byte(rt, page, railbus::letter_of(message));
     let value = railbus::value_of(message);
     let numbers = three(packet.address as u64, packet.register as u64, value as u64);
-    let said = texts::text(letter, text_of(message), numbers);
+    let said = texts::text(rt, letter, text_of(message), numbers);
     if examined {
-        return texts::plain(said, texts::CHECKED);
+        return texts::plain(rt, said, texts::CHECKED);
     }
-    texts::plain(said, texts::UNCHECKED)
+    texts::plain(rt, said, texts::UNCHECKED)
 }
 
 fn text_of(message: Message) -> u8 {
@@ -62,40 +62,40 @@ fn data_at(line: &[u8], at: usize, message: Message) -> NumberRead {
     }
 }
 
-pub(crate) fn write(line: &[u8], at: usize, d: Desk) -> Desk {
+pub(crate) fn write(rt: &impl Print, line: &[u8], at: usize, d: Desk) -> Desk {
     let first = letter_at(line, at);
     let NumberRead::Number(letter, second_at) = first else {
-        return d.wrong(fault_of(first));
+        return d.wrong(rt, fault_of(first));
     };
     let second = one_byte(line, second_at);
     let NumberRead::Number(address, third_at) = second else {
-        return d.wrong(fault_of(second));
+        return d.wrong(rt, fault_of(second));
     };
     let third = one_byte(line, third_at);
     let NumberRead::Number(register, fourth_at) = third else {
-        return d.wrong(fault_of(third));
+        return d.wrong(rt, fault_of(third));
     };
     let letter = (letter % 256) as u8;
     let fourth = data_at(line, fourth_at, railbus::message_for(letter, 0));
     let NumberRead::Number(value, end) = fourth else {
-        return d.wrong(fault_of(fourth));
+        return d.wrong(rt, fault_of(fourth));
     };
     if word::more(line, end) {
-        return d.extra(line, end);
+        return d.extra(rt, line, end);
     }
     let packet = Packet {
         address: (address % 256) as u8,
         register: (register % 256) as u8,
         message: railbus::message_for(letter, (value % 0x100000000) as u32),
     };
-    d.with_page(write_packet(packet, d.room, d.page))
+    d.with_page(write_packet(rt, packet, d.room, d.page))
 }
 
-fn write_packet(packet: Packet, room: usize, page: Page) -> Page {
+fn write_packet(rt: &impl Print, packet: Packet, room: usize, page: Page) -> Page {
     let mut out = [FILL; FULL];
     let w = railbus::write_packet(packet, lent(&mut out, room));
     match w {
-        Written::Length(n) => say::spelled(page, texts::WRITTEN, start_of(&out, n)),
-        Written::Refused(why) => say::refused(page, why),
+        Written::Length(n) => say::spelled(rt, page, texts::WRITTEN, start_of(&out, n)),
+        Written::Refused(why) => say::refused(rt, page, why),
     }
 }

@@ -50,10 +50,8 @@ fn bit_by_bit(before: u8, c: u8) -> u8 {
 // The register behind all characters but the last two.
 fn behind(text: &[u8]) -> u8 {
     let mut register = 0;
-    let mut i = 2;
-    while i < text.len() {
+    for i in 2..text.len() {
         register = bit_by_bit(register, text[i - 2]);
-        i += 1;
     }
     register
 }
@@ -66,16 +64,14 @@ fn checksum(text: &[u8]) -> [u8; 2] {
 
 // The place of the first character that is no digit where one is due; the length where there is none.
 fn no_digit(text: &[u8]) -> usize {
-    let mut i = 2;
-    while i < text.len() {
+    for i in 2..text.len() {
         if i != 4 {
             if !is_digit(text[i]) {
                 return i;
             }
         }
-        i += 1;
     }
-    i
+    text.len()
 }
 
 // What is wrong with the mark, the letter and the length, or 0.

@@ -33,15 +33,13 @@ fn case(of: Lines, text: &[u8], at: usize) -> Checked {
 pub(crate) fn cases(of: Lines, text: &[u8]) -> Tally {
     let mut t = none();
     let mut at = 0;
-    let mut i = 0;
-    while i < text.len() {
+    for _ in 0..text.len() {
         if text.len() <= at {
             return t;
         }
         let c = case(of, text, at);
         t = t.with(c.right);
         at = c.next;
-        i += 1;
     }
     t
 }

@@ -105,13 +105,11 @@ pub(crate) fn modbus_each_length() -> Tally {
     let mut t = none();
     let mut bytes = [0u8; LENGTHS];
     let mut register: u16 = 0xFFFF;
-    let mut n = 0;
-    while n < LENGTHS {
+    for n in 0..LENGTHS {
         t = t.with(crc::modbus_check(start(&bytes, n)) == register);
         let byte = (register / 256) as u8;
         bytes[n] = byte;
         register = bit_by_bit(register, byte);
-        n += 1;
     }
     t
 }

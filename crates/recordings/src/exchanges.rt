@@ -276,10 +276,8 @@ fn cut(run: &[u8], n: usize) -> bool {
 // Every prefix of a run is refused with 3, at its own length.
 fn prefixes_of(run: &[u8]) -> Tally {
     let mut t = none();
-    let mut n = 0;
-    while n < run.len() {
+    for n in 0..run.len() {
         t = t.with(cut(run, n));
-        n += 1;
     }
     t
 }

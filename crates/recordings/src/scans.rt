@@ -39,21 +39,18 @@ fn gave(s: Scanned, answer: u8, count: usize, fill: usize) -> bool {
 
 // Serials in no order: all different for up to 251 devices.
 fn lay_out(serials: &mut [u32], first: u32, step: u32) {
-    let mut i = 0;
     let mut at: u64 = 0;
-    while i < serials.len() {
+    for i in 0..serials.len() {
         let serial = (at % 251) * (step as u64) + (first as u64);
         serials[i] = (serial % 0x1_0000_0000) as u32;
         at = (at % 251 + 97) % 251;
-        i += 1;
     }
 }
 
 // Whether the first n entries rise, and those behind them are as they were.
 fn rising(list: &[u32], n: usize) -> bool {
     let mut right = n <= list.len();
-    let mut i = 0;
-    while i < list.len() {
+    for i in 0..list.len() {
         if i < n {
             if 0 < i {
                 right = right && list[i - 1] < list[i];
@@ -61,7 +58,6 @@ fn rising(list: &[u32], n: usize) -> bool {
         } else {
             right = right && list[i] == FILL;
         }
-        i += 1;
     }
     right
 }
@@ -69,14 +65,11 @@ fn rising(list: &[u32], n: usize) -> bool {
 // Whether as many marks are 1, and the others 0.
 fn marked(marks: &[u8], n: usize) -> bool {
     let mut ones: usize = 0;
-    let mut i = 0;
-    while i < marks.len() {
-        let mark = marks[i];
-        i += 1;
-        if mark == 1 {
+    for mark in marks {
+        if *mark == 1 {
             ones += 1;
         } else {
-            if mark != 0 {
+            if *mark != 0 {
                 return false;
             }
         }

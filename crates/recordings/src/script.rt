@@ -426,8 +426,7 @@ pub(crate) fn played(text: &[u8]) -> Tally {
     let mut t = none();
     let mut bus = fresh(1, 2);
     let mut at = 0;
-    let mut i = 0;
-    while i < text.len() {
+    for _ in 0..text.len() {
         if text.len() <= at {
             return t;
         }
@@ -435,7 +434,6 @@ pub(crate) fn played(text: &[u8]) -> Tally {
         t = t.with(s.right);
         bus = s.bus;
         at = s.next;
-        i += 1;
     }
     t
 }

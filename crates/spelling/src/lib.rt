@@ -5,6 +5,7 @@
 // is left out.
 #![tactic(auto)]
 
+use itoa::Buffer;
 use lists::{put, smaller};
 
 // Room for a line.
@@ -34,9 +35,8 @@ pub fn byte(at: usize, line: &mut [u8; LINE], b: u8) -> usize {
 }
 
 pub fn decimal(at: usize, line: &mut [u8; LINE], number: u64) -> usize {
-    let mut digits = [0u8; 20];
-    let k = io::decimal(number, &mut digits);
-    text(at, line, &digits[..k])
+    let mut digits = Buffer::new();
+    text(at, line, digits.format(number).as_bytes())
 }
 
 // A digit's letter, in upper case.
@@ -53,11 +53,9 @@ pub fn hex(at: usize, line: &mut [u8; LINE], b: u8) -> usize {
 // Bytes, each behind a blank.
 pub fn bytes(at: usize, line: &mut [u8; LINE], list: &[u8]) -> usize {
     let mut k = at;
-    let mut i = 0;
-    while i < list.len() {
+    for b in list {
         k = byte(k, line, b' ');
-        k = hex(k, line, list[i]);
-        i += 1;
+        k = hex(k, line, *b);
     }
     k
 }
@@ -67,18 +65,15 @@ pub fn bytes(at: usize, line: &mut [u8; LINE], list: &[u8]) -> usize {
 fn line_of<'a>(lines: &'a [u8], number: u8) -> &'a [u8] {
     let mut left = number;
     let mut from = 0;
-    let mut i = 0;
-    while i < lines.len() {
+    for i in 0..lines.len() {
         if lines[i] != b'\n' {
-            i += 1;
             continue;
         }
         if left == 0 {
             return &lines[from..i];
         }
         left -= 1;
-        i += 1;
-        from = i;
+        from = i + 1;
     }
     &lines[..0]
 }

@@ -4,7 +4,7 @@
 
 pub mod part;
 
-use libc::STDOUT_FILENO;
+use std::io;
 
 // A group that is counted past this stays there; no group here comes near it.
 const LIMIT: u32 = 1000000;
@@ -44,12 +44,10 @@ impl Tally {
     }
 
     // The group's line.
-    pub fn say(self, group: &[u8]) {
-        io::write_all(STDOUT_FILENO, group);
-        io::write_all(STDOUT_FILENO, b": ");
-        io::print_decimal(STDOUT_FILENO, self.run as u64);
-        io::write_all(STDOUT_FILENO, b" run, ");
-        io::print_decimal(STDOUT_FILENO, self.right as u64);
-        io::write_all(STDOUT_FILENO, b" right\n");
+    pub fn say(self, rt: &impl Print, group: &[u8]) -> io::Result<()> {
+        let run = self.run;
+        let right = self.right;
+        rt.write_all(group)?;
+        println!(rt; ": {run} run, {right} right")
     }
 }

@@ -39,15 +39,13 @@ pub fn lent_words(out: &mut [u32], n: usize) -> &mut [u32] {
 // Whether the output starts with these bytes and is filled behind them.
 pub fn holds(out: &[u8], expected: &[u8]) -> bool {
     let mut right = expected.len() <= out.len();
-    let mut i = 0;
-    while i < out.len() {
+    for i in 0..out.len() {
         let due = if i < expected.len() {
             expected[i]
         } else {
             FILL
         };
         right = right && out[i] == due;
-        i += 1;
     }
     right
 }
