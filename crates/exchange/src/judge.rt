@@ -66,7 +66,7 @@ fn verdict_at(run: &[u8], kind: ExchangeKind, commands: u8, replies: u8, at: usi
 
 // Behind a command that needs no reply.
 fn without_reply(run: &[u8], kind: ExchangeKind, commands: u8, at: usize) -> Replies
-    ensures by_index { (command : List ℕ) → replies_of result run.now at command ≡ on_end kind commands 0 command [] [] (syn_at run.now at) }
+    ensures outcome { (command : List ℕ) → replies_of result run.now at command ≡ on_end kind commands 0 command [] [] (syn_at run.now at) }
     ensures ready { Ready false run.now at result.len1 × Ready false run.now result.second result.len2 }
 {
     Replies {
@@ -80,7 +80,7 @@ fn without_reply(run: &[u8], kind: ExchangeKind, commands: u8, at: usize) -> Rep
 // Behind a command whose reply is due: the attempts at it.
 fn with_reply(run: &[u8], tables: &[u8; 512], commands: u8, at: usize) -> Replies
     requires { EbusTables tables.now }
-    ensures by_index { (command : List ℕ) → replies_of result run.now at command ≡ on_reply commands command run.now (tries_at false run.now at) }
+    ensures outcome { (command : List ℕ) → replies_of result run.now at command ≡ on_reply commands command run.now (tries_at false run.now at) }
     ensures ready { Ready false run.now at result.len1 × Ready false run.now result.second result.len2 }
 {
     let t = tries_at(run, tables, false, at);
@@ -117,7 +117,7 @@ fn after_command(
     at: usize,
 ) -> Replies
     requires { EbusTables tables.now }
-    ensures by_index { (command : List ℕ) → replies_of result run.now at command ≡ on_kind commands command run.now at (kind_of destination) }
+    ensures outcome { (command : List ℕ) → replies_of result run.now at command ≡ on_kind commands command run.now at (kind_of destination) }
     ensures ready { Ready false run.now at result.len1 × Ready false run.now result.second result.len2 }
 {
     let k = kind(destination);

@@ -60,8 +60,8 @@ fn nacked_twice(command: bool) -> u8
 // The second attempt, behind a first one of so many bytes that was NACKed.
 fn second_try(run: &[u8], tables: &[u8; 512], command: bool, len: usize, at: usize) -> Tries
     requires { EbusTables tables.now }
-    ensures by_index { (start : ℕ) → tries_of result run.now start ≡ on_second command (logicals_at run.now len start) (attempt_at command run.now at) }
-    ensures by_index_2 { ((start : ℕ) → Ready command run.now start len → Ready command run.now start result.len1) × Ready command run.now result.second result.len2 }
+    ensures tries_value { (start : ℕ) → tries_of result run.now start ≡ on_second command (logicals_at run.now len start) (attempt_at command run.now at) }
+    ensures ready { ((start : ℕ) → Ready command run.now start len → Ready command run.now start result.len1) × Ready command run.now result.second result.len2 }
     ensures second_read { SecondRead command run.now result }
 {
     let a = attempt_at(run, tables, command, at);

@@ -35,11 +35,11 @@ finish-requires-in-Twice c =
 
 pub returns-in-Once : goal.returns-in-Once
 returns-in-Once c =
-    judges_same (once_then c.args.run.now c.args.at c.tries_at-t.result c.tries_at-t.ensures.at_value c.in-Once.is ∙ sym (c.after_command-e.ensures.by_index _)) c.finish.ensures
+    judges_same (once_then c.args.run.now c.args.at c.tries_at-t.result c.tries_at-t.ensures.at_value c.in-Once.is ∙ sym (c.after_command-e.ensures.outcome _)) c.finish.ensures
 
 pub returns-in-Twice : goal.returns-in-Twice
 returns-in-Twice c =
-    judges_same (twice_then c.args.run.now c.args.at c.tries_at-t.result c.tries_at-t.ensures.at_value c.in-Twice.is c.tries_at-t.ensures.second_read ∙ sym (c.after_command-e-in-Twice.ensures.by_index _)) c.finish-in-Twice.ensures
+    judges_same (twice_then c.args.run.now c.args.at c.tries_at-t.result c.tries_at-t.ensures.at_value c.in-Twice.is c.tries_at-t.ensures.second_read ∙ sym (c.after_command-e-in-Twice.ensures.outcome _)) c.finish-in-Twice.ensures
 
 pub returns-in-Neither : goal.returns-in-Neither
 returns-in-Neither c =

@@ -21,7 +21,7 @@ returns-in-Once c =
     let second = logicals_at run t.len2 t.second in
     let is = sym c.tries_at-t.ensures.at_value ∙ ap (tries_as first second t.next t.why) c.in-Once.is in
     record {
-      by_index = λ command.
+      outcome = λ command.
           outcome_at command first [] InitiatorTarget commands 1 (syn_at run t.next) c.verdict_at.result c.verdict_at.ensures
           ∙ sym (ap (on_reply commands command run) is);
       ready = (c.tries_at-t.ensures.ready.0, ready_none false _ _);
@@ -36,7 +36,7 @@ returns-in-Twice c =
     let second = logicals_at run t.len2 t.second in
     let is = sym c.tries_at-t.ensures.at_value ∙ ap (tries_as first second t.next t.why) c.in-Twice.is in
     record {
-      by_index = λ command.
+      outcome = λ command.
           outcome_at command first second InitiatorTarget commands 2 (syn_at run t.next) c.verdict_at-in-Twice.result c.verdict_at-in-Twice.ensures
           ∙ sym (ap (on_reply commands command run) is);
       ready = c.tries_at-t.ensures.ready;
@@ -50,4 +50,4 @@ returns-in-Neither c =
     let first = logicals_at run t.len1 c.args.at in
     let second = logicals_at run t.len2 t.second in
     let is = sym c.tries_at-t.ensures.at_value ∙ ap (tries_as first second t.next t.why) c.in-Neither.is in
-    record { by_index = λ command. sym (ap (on_reply commands command run) is); ready = (ready_none false _ _, ready_none false _ _) }
+    record { outcome = λ command. sym (ap (on_reply commands command run) is); ready = (ready_none false _ _, ready_none false _ _) }

@@ -11,4 +11,4 @@ use Rattle.exchange.proofs.judge.without_reply.Goals as goal
 pub returns : goal.returns
 unfolding logicals_at
 returns c =
-    record { by_index = λ command. outcome_at command [] [] c.args.kind c.args.commands 0 (syn_at c.args.run.now c.args.at) c.verdict_at.result c.verdict_at.ensures; ready = (ready_none false _ _, ready_none false _ _) }
+    record { outcome = λ command. outcome_at command [] [] c.args.kind c.args.commands 0 (syn_at c.args.run.now c.args.at) c.verdict_at.result c.verdict_at.ensures; ready = (ready_none false _ _, ready_none false _ _) }

@@ -32,7 +32,7 @@ returns-in-Taken c =
     let a = c.attempt_at-a.result in
     let each : Bytes run = λ (i : ℕ). omega (arith, c.type_inv.run i) in
     let is = attempt_told c.requires command run at each a c.attempt_at-a.ensures.at_value _ c.in-Taken.is in
-    record { by_index = λ start. sym (ap (on_second command (logicals_at run c.args.len start)) is); by_index_2 = (λ start ready. ready, c.attempt_at-a.ensures.ready); second_read = λ _. taken_read command run at (logicals_at run a.len at) a.next is }
+    record { tries_value = λ start. sym (ap (on_second command (logicals_at run c.args.len start)) is); ready = (λ start ready. ready, c.attempt_at-a.ensures.ready); second_read = λ _. taken_read command run at (logicals_at run a.len at) a.next is }
 
 pub returns-in-Nacked : goal.returns-in-Nacked
 returns-in-Nacked c =
@@ -43,10 +43,10 @@ returns-in-Nacked c =
     let each : Bytes run = λ (i : ℕ). omega (arith, c.type_inv.run i) in
     let is = attempt_told c.requires command run at each a c.attempt_at-a.ensures.at_value _ c.in-Nacked.is in
     record {
-      by_index = λ start.
+      tries_value = λ start.
           ap (λ (t : TriesStruct). tries_of t run start) c.no_tries.ensures ∙ ap (λ (k : ℕ). neither (at_place k (a.next - 1))) c.nacked_twice.ensures
           ∙ sym (ap (on_second command (logicals_at run c.args.len start)) is);
-      by_index_2 = (λ start _. ready_zero command run start _ (ap (λ (t : TriesStruct). t.len1) c.no_tries.ensures), ready_zero command run _ _ (ap (λ (t : TriesStruct). t.len2) c.no_tries.ensures));
+      ready = (λ start _. ready_zero command run start _ (ap (λ (t : TriesStruct). t.len1) c.no_tries.ensures), ready_zero command run _ _ (ap (λ (t : TriesStruct). t.len2) c.no_tries.ensures));
       second_read = λ told. neither_not_twice (ap (λ (t : TriesStruct). t.tried) c.no_tries.ensures) told;
     }
 
@@ -58,4 +58,4 @@ returns-in-Failed c =
     let a = c.attempt_at-a.result in
     let each : Bytes run = λ (i : ℕ). omega (arith, c.type_inv.run i) in
     let is = attempt_told c.requires command run at each a c.attempt_at-a.ensures.at_value _ c.in-Failed.is in
-    record { by_index = λ start. ap (λ (t : TriesStruct). tries_of t run start) c.no_tries-in-Failed.ensures ∙ sym (ap (on_second command (logicals_at run c.args.len start)) is); by_index_2 = (λ start _. ready_zero command run start _ (ap (λ (t : TriesStruct). t.len1) c.no_tries-in-Failed.ensures), ready_zero command run _ _ (ap (λ (t : TriesStruct). t.len2) c.no_tries-in-Failed.ensures)); second_read = λ told. neither_not_twice (ap (λ (t : TriesStruct). t.tried) c.no_tries-in-Failed.ensures) told }
+    record { tries_value = λ start. ap (λ (t : TriesStruct). tries_of t run start) c.no_tries-in-Failed.ensures ∙ sym (ap (on_second command (logicals_at run c.args.len start)) is); ready = (λ start _. ready_zero command run start _ (ap (λ (t : TriesStruct). t.len1) c.no_tries-in-Failed.ensures), ready_zero command run _ _ (ap (λ (t : TriesStruct). t.len2) c.no_tries-in-Failed.ensures)); second_read = λ told. neither_not_twice (ap (λ (t : TriesStruct). t.tried) c.no_tries-in-Failed.ensures) told }

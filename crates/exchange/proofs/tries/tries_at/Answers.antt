@@ -36,7 +36,7 @@ returns-in-Nacked c =
     let each : Bytes run = λ (i : ℕ). omega (arith, c.type_inv.run i) in
     let is = attempt_told c.requires command run at each a c.attempt_at-a.ensures.at_value _ c.in-Nacked.is in
     let behind = nack_told c.requires command run at each a c.attempt_at-a.ensures.at_value c.attempt_at-a.ensures.next_value c.in-Nacked.is in
-    record { at_value = c.second_try.ensures.by_index at ∙ ap (λ (k : ℕ). on_second command s (attempt_at command run k)) behind ∙ sym (ap (on_first command run) is); ready = (c.second_try.ensures.by_index_2.0 at c.attempt_at-a.ensures.ready, c.second_try.ensures.by_index_2.1); second_read = c.second_try.ensures.second_read }
+    record { at_value = c.second_try.ensures.tries_value at ∙ ap (λ (k : ℕ). on_second command s (attempt_at command run k)) behind ∙ sym (ap (on_first command run) is); ready = (c.second_try.ensures.ready.0 at c.attempt_at-a.ensures.ready, c.second_try.ensures.ready.1); second_read = c.second_try.ensures.second_read }
 
 pub returns-in-Failed : goal.returns-in-Failed
 unfolding tries_at
