@@ -1,1 +1,0 @@
--- Nothing stands here: each proof belongs to one function.
