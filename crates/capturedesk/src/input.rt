@@ -78,7 +78,7 @@ fn over(
 ) -> Walk {
     let mut walk = w;
     for run in bytes.chunks(RUN) {
-        walk = walk::over_run(walk, run, asked, stretch, page);
+        walk::over_run(&mut walk, run, asked, stretch, page);
         if FULL < walk.waiting {
             walk = written_out(rt, walk, page);
         }
@@ -152,7 +152,8 @@ fn last(
     page: &mut [u8; PAGE],
 ) -> Walk {
     clear(rt, w.at, asked);
-    let e = w.ended(asked, stretch, page);
+    let mut e = w;
+    e.ended(asked, stretch, page);
     let counts = e.counts;
     let waiting = summary::add(e.waiting, page, e.at, e.skipped, counts, whole);
     written_out(rt, e.with_waiting(waiting), page).over(true)

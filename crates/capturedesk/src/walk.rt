@@ -80,92 +80,93 @@ impl Walk {
     }
 
     // The next stretch starts here: of the one in hand so many bytes belong to an exchange.
-    fn afresh(mut self, used: u64) -> Walk {
+    fn afresh(&mut self, used: u64) {
         let left = less(less(self.at, self.start), used);
         self.skipped = plus(self.skipped, left);
         self.start = self.at;
         self.state = listening::listen();
         self.used = 0;
-        self
     }
 
     // A SYN alone: idle time.
-    fn idle(mut self) -> Walk {
+    fn idle(&mut self) {
         let at = plus(self.at, 1);
         self.at = at;
         self.start = at;
         self.skipped = plus(self.skipped, 1);
-        self
     }
 
     // So many bytes were fed, and so many of them used.
-    fn fed(mut self, n: usize, state: Listening, used: usize) -> Walk {
+    fn fed(&mut self, n: usize, state: Listening, used: usize) {
         self.at = plus(self.at, n as u64);
         self.state = state;
         self.used = plus(self.used, used as u64);
-        self
     }
 
     // An exchange was counted, and its line waits.
-    fn told(mut self, counts: Counts, waiting: usize) -> Walk {
+    fn told(&mut self, counts: Counts, waiting: usize) {
         self.counts = counts;
         self.waiting = waiting;
-        self
     }
 
     // Whether the stretch in hand has no byte yet.
-    fn is_at_start(self) -> bool {
+    fn is_at_start(&self) -> bool {
         self.at == self.start
     }
 
     // Bytes of the stretch in hand, with the SYN that ends it if it is there. SYN alone is idle time,
     // the most frequent case.
     fn part(
-        self,
+        &mut self,
         bytes: &[u8],
         asked: Asked,
         stretch: &mut [u8; STRETCH],
         page: &mut [u8; PAGE],
-    ) -> Walk {
+    ) {
         let n = bytes.len();
         if !ends_in_syn(bytes) {
-            return self.longer(bytes, stretch);
+            self.longer(bytes, stretch);
+            return;
         }
         if n == 1 {
             if self.is_at_start() {
-                return self.idle();
+                self.idle();
+                return;
             }
         }
-        let w = self.longer(bytes, stretch);
-        if has_answered(w.state) {
-            return w.tell(asked, stretch, page).afresh(w.used);
+        self.longer(bytes, stretch);
+        if has_answered(self.state) {
+            self.tell(asked, stretch, page);
+            self.afresh(self.used);
+            return;
         }
-        w.afresh(0)
+        self.afresh(0);
     }
 
     // The stretch in hand is longer by these bytes.
-    fn longer(self, bytes: &[u8], stretch: &mut [u8; STRETCH]) -> Walk {
+    fn longer(&mut self, bytes: &[u8], stretch: &mut [u8; STRETCH]) {
         keep(stretch, less(self.at, self.start), bytes);
         let fed = feed(self.state, bytes);
         let state = fed.state;
-        self.fed(bytes.len(), state, fed.used)
+        self.fed(bytes.len(), state, fed.used);
     }
 
     // The capture has ended, and with it an exchange that was going on.
     pub(crate) fn ended(
-        self,
+        &mut self,
         asked: Asked,
         stretch: &mut [u8; STRETCH],
         page: &mut [u8; PAGE],
-    ) -> Walk {
+    ) {
         if self.is_at_start() {
-            return self;
+            return;
         }
-        self.tell(asked, stretch, page).afresh(self.used)
+        self.tell(asked, stretch, page);
+        self.afresh(self.used);
     }
 
     // Counts the exchange in hand, and says it where that is asked.
-    fn tell(self, asked: Asked, stretch: &[u8; STRETCH], page: &mut [u8; PAGE]) -> Walk {
+    fn tell(&mut self, asked: Asked, stretch: &[u8; STRETCH], page: &mut [u8; PAGE]) {
         let mut command = [0u8; COMMAND_ROOM];
         let mut first = [0u8; REPLY_ROOM];
         let mut second = [0u8; REPLY_ROOM];
@@ -177,7 +178,8 @@ impl Walk {
                 let counts = self.counts;
                 let more = counts.with_accepted(kind, commands, replies);
                 if !asked.accepted {
-                    return self.told(more, self.waiting);
+                    self.told(more, self.waiting);
+                    return;
                 }
                 let data = replies::reply_data(&first, &second, replies);
                 let waiting = accepted(
@@ -190,27 +192,28 @@ impl Walk {
                     data,
                     page,
                 );
-                self.told(more, waiting)
+                self.told(more, waiting);
             }
         }
     }
 
     fn refused(
-        self,
+        &mut self,
         why: Refusal,
         said: bool,
         stretch: &[u8; STRETCH],
         page: &mut [u8; PAGE],
-    ) -> Walk {
+    ) {
         let counts = self.counts;
         let more = counts.with_refused(why.number);
         if !said {
-            return self.told(more, self.waiting);
+            self.told(more, self.waiting);
+            return;
         }
         let mut line = [0u8; LINE];
         let heard = heard_of(stretch, less(self.at, self.start));
         let n = report::refused(&mut line, self.start, why, heard);
-        self.told(more, page::add(self.waiting, page, &line, n))
+        self.told(more, page::add(self.waiting, page, &line, n));
     }
 }
 
@@ -241,19 +244,17 @@ fn accepted(
 
 // A run more, one stretch after the other.
 pub(crate) fn over_run(
-    w: Walk,
+    walk: &mut Walk,
     run: &[u8],
     asked: Asked,
     stretch: &mut [u8; STRETCH],
     page: &mut [u8; PAGE],
-) -> Walk {
-    let mut walk = w;
+) {
     let mut i = 0;
     while i < run.len() {
         let rest = &run[i..];
         let n = through_syn(rest);
-        walk = walk.part(start_of(rest, n), asked, stretch, page);
+        walk.part(start_of(rest, n), asked, stretch, page);
         i += n;
     }
-    walk
 }
