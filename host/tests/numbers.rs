@@ -53,12 +53,6 @@ fn joined(constant: &str) -> String {
     words.map(capital).collect()
 }
 
-/// `OUTPUT_SHORT` as `outputShort`.
-fn camel(constant: &str) -> String {
-    let joined = joined(constant);
-    joined[..1].to_lowercase() + &joined[1..]
-}
-
 /// The pairs that a place has are those of the list, in its order.
 fn assert_same<A, B>(place: &str, found: &[(A, B)], due: impl Fn(&Line) -> (A, B))
 where
@@ -137,7 +131,7 @@ fn the_definitions() {
     let path = "crates/refusal/specs/Number.antt";
     let found: Vec<(String, String)> = pairs(&file(path), "abbrev pub ", " : ℕ\n", "\n");
     let due = |line: &Line| {
-        let name = camel(&line.constant);
+        let name = line.constant.to_lowercase();
         let equation = format!("{name} = {}", line.number);
         (name, equation)
     };
