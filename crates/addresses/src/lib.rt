@@ -10,7 +10,7 @@ use escapes::{ESC, SYN};
 const EVERYONE: u8 = 0xFE;
 
 // The kind of an exchange, which its destination decides.
-#[derive(Clone, Copy)]
+#[derive(Clone, Copy, PartialEq, Eq)]
 pub enum ExchangeKind {
     Broadcast,
     InitiatorInitiator,
@@ -21,43 +21,23 @@ pub enum ExchangeKind {
 fn initiator_nibble(n: u8) -> bool
     ensures { result ≡ initiator_nibble n }
 {
-    if n == 0x0 {
-        return true;
-    }
-    if n == 0x1 {
-        return true;
-    }
-    if n == 0x3 {
-        return true;
-    }
-    if n == 0x7 {
-        return true;
-    }
-    if n == 0xF {
-        return true;
-    }
-    false
+    matches!(n, 0x0 | 0x1 | 0x3 | 0x7 | 0xF)
 }
 
 // Whether this is an initiator's address: there are 25 of them, FF included.
+#[tactic(auto, unfolding(crate::specs::Address::initiator))]
 pub fn is_initiator(address: u8) -> bool
     ensures { result ≡ initiator address }
 {
-    if initiator_nibble(address / 16) {
-        initiator_nibble(address % 16)
-    } else {
-        false
-    }
+    initiator_nibble(address / 16) && initiator_nibble(address % 16)
 }
 
 // Whether this address is A9 or AA, which no destination may be.
+#[tactic(auto, unfolding(crate::specs::Address::reserved))]
 pub fn is_reserved(address: u8) -> bool
     ensures { result ≡ reserved address }
 {
-    if address == ESC {
-        return true;
-    }
-    address == SYN
+    address == ESC || address == SYN
 }
 
 // The kind of an exchange with this destination.

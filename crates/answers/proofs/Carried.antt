@@ -3,10 +3,8 @@
 use mathlib.Core.Path.{◌≡◌, ap}
 use mathlib.Core.List.{List, [], ◌∷◌, ◌++◌}
 use Prim.Native.Nat.{ℕ, ◌+◌, ◌*◌, ◌/◌, ◌%◌, ◌<◌}
-use native.Mathlib.Nat.{add-zero, add_assoc}
 use native.Mathlib.Omega.{arith}
-use lib.ListN.{length, get_or, drop}
-use lib.Seq.{get_or-drop}
+use lib.ListN.{length, get_or}
 use Rattle.answers.specs.Layout.{serial_bytes, found_bytes}
 use Rattle.answers.specs.Reading.{serial_of, address_of}
 
@@ -28,25 +26,15 @@ apart a b c d hb hc hd =
     let ed : n % 256 ≡ d = omega arith in
     cc
 
--- the code reads the serial as two pairs of bytes
-pub serial_pairs : (input : List ℕ) (place high low : ℕ) → high ≡ get_or input place 0 * 256 + get_or input (place + 1) 0
-    → low ≡ get_or input (place + 2) 0 * 256 + get_or input (place + 2 + 1) 0 → high * 65536 + low ≡ serial_of (drop place input)
-unfolding serial_of
-serial_pairs input place high low is_high is_low =
-    let at = get_or-drop place input in
-    let last : get_or input (place + 2 + 1) 0 ≡ get_or input (place + 3) 0 = ap (λ (n : ℕ). get_or input n 0) (add_assoc place 2 1) in
-    let first : get_or input (place + 0) 0 ≡ get_or input place 0 = ap (λ (n : ℕ). get_or input n 0) (add-zero place) in
-    omega (arith, at 0 0, at 1 0, at 2 0, at 3 0)
-
 -- five bytes are those of the serial and the address that are read from them
 pub carried_exact : (carried : List ℕ) → length carried ≡ 5 → ((k : ℕ) → k < 5 → get_or carried k 0 < 256)
     → found_bytes (serial_of carried) (address_of carried) ≡ carried
 unfolding serial_of found_bytes
 carried_exact (a ∷ b ∷ c ∷ d ∷ e ∷ []) five bytes =
     ap (λ (l : List ℕ). l ++ e ∷ []) (apart a b c d (bytes 1 (omega arith)) (bytes 2 (omega arith)) (bytes 3 (omega arith)))
-carried_exact [] five bytes = let z : ⊥ = omega arith in absurd z
-carried_exact (a ∷ []) five bytes = let z : ⊥ = omega arith in absurd z
-carried_exact (a ∷ b ∷ []) five bytes = let z : ⊥ = omega arith in absurd z
-carried_exact (a ∷ b ∷ c ∷ []) five bytes = let z : ⊥ = omega arith in absurd z
-carried_exact (a ∷ b ∷ c ∷ d ∷ []) five bytes = let z : ⊥ = omega arith in absurd z
-carried_exact (a ∷ b ∷ c ∷ d ∷ e ∷ f ∷ more) five bytes = let z : ⊥ = omega arith in absurd z
+carried_exact [] five bytes = absurd (omega arith)
+carried_exact (a ∷ []) five bytes = absurd (omega arith)
+carried_exact (a ∷ b ∷ []) five bytes = absurd (omega arith)
+carried_exact (a ∷ b ∷ c ∷ []) five bytes = absurd (omega arith)
+carried_exact (a ∷ b ∷ c ∷ d ∷ []) five bytes = absurd (omega arith)
+carried_exact (a ∷ b ∷ c ∷ d ∷ e ∷ f ∷ more) five bytes = absurd (omega arith)

@@ -1,26 +1,24 @@
 -- Laws of the FF before an answer: how many there are, which of them a reader passes over, and the walk of the code over them.
 -- Assumes nothing.
-use mathlib.Core.Path.{◌≡◌, refl, sym, ap, ap₂, ◌∙◌}
+use Rattle.std.specs.Prelude.{Result, Ok, Err}
+use Rattle.refusal.specs.declared.Refusal.{Refusal}
+use mathlib.Core.Path.{◌≡◌, refl, ap, ap₂, ◌∙◌}
 use mathlib.Core.Bool.{Bool, true, false}
 use mathlib.Core.List.{List, [], ◌∷◌, ◌++◌}
-use Prim.Native.Nat.{ℕ, zero, suc, ◌+◌, ◌≤◌, ◌<◌}
-use native.Mathlib.Nat.{add-suc, suc-add, add-zero}
-use native.Mathlib.Numerals.{add-one}
+use Prim.Native.Nat.{ℕ, zero, suc, ◌+◌, ◌≤◌, ◌<◌, min}
 use native.Mathlib.Omega.{arith}
 use lib.Dec.{eqb, leb}
-use lib.ListN.{length, get_or, drop, replicate, drop_of_length-le}
-use lib.Seq.{drop-cons}
+use lib.ListN.{length, take, drop, replicate}
 use borrow.Author.Tests.{eq-eqb, ne_eqb, eqb-true, eqb-false, leb-true, leb-false}
+use Rattle.std.proofs.lemmas.List.Sums.{prefix_len-le-length}
 use Rattle.lists.proofs.Cases.{pick_cases}
 use Rattle.refusal.specs.Number.{fill_over, at_place}
 use Rattle.answers.specs.Reading.{fill, leading_fill, most_fill, before_frame}
-use Rattle.answers.specs.declared.Skipped.{Skipped}
-use Rattle.answers.specs.declared.Skipped.TheVariants.{Fill, Refused}
 
 -- one FF more
 pub fill_more : (b : ℕ) (bs : List ℕ) → b ≡ fill → leading_fill (b ∷ bs) ≡ suc (leading_fill bs)
 unfolding leading_fill
-fill_more b bs e = simp (eq-eqb b fill e)
+fill_more b bs e = simp (eq-eqb b fill e) (omega arith)
 
 -- another byte ends them
 pub fill_ends : (b : ℕ) (bs : List ℕ) → (b ≡ fill → ⊥) → leading_fill (b ∷ bs) ≡ zero
@@ -57,39 +55,42 @@ fill_split (b ∷ bs) = by (eqb b fill) refl (fill_split bs)
 -- ---- what a reader passes over
 
 -- what holds of it, from what holds of each case
-pub by_before : (P : Skipped → Type 0) (input : List ℕ) → (leading_fill input ≤ most_fill → P (Fill (leading_fill input)))
-    → (most_fill < leading_fill input → P (Refused (at_place fill_over most_fill))) → P (before_frame input)
+pub by_before : (P : Result ℕ Refusal → Type 0) (input : List ℕ) → (leading_fill input ≤ most_fill → P (Ok (leading_fill input)))
+    → (most_fill < leading_fill input → P (Err (at_place fill_over most_fill))) → P (before_frame input)
 unfolding before_frame
 by_before P input few many =
-    pick_cases P (leb (leading_fill input) most_fill) (Fill (leading_fill input)) (Refused (at_place fill_over most_fill))
+    pick_cases P (leb (leading_fill input) most_fill) (Ok (leading_fill input)) (Err (at_place fill_over most_fill))
     (λ t. few (leb-true (leading_fill input) most_fill t)) (λ t. many (leb-false (leading_fill input) most_fill t))
 
-pub before_few : (input : List ℕ) (n : ℕ) → leading_fill input ≡ n → n ≤ most_fill → before_frame input ≡ Fill n
+pub before_few : (input : List ℕ) (n : ℕ) → leading_fill input ≡ n → n ≤ most_fill → before_frame input ≡ Ok n
 before_few input n is few =
-    by_before (λ (s : Skipped). s ≡ Fill n) input (λ h. ap Fill is) (λ h. let z : ⊥ = omega (arith, is) in absurd z)
+    by_before (λ (s : Result ℕ Refusal). s ≡ Ok n) input (λ h. ap Ok is) (λ h. let z : ⊥ = omega (arith, is) in absurd z)
 
-pub before_many : (input : List ℕ) → most_fill < leading_fill input → before_frame input ≡ Refused (at_place fill_over most_fill)
+pub before_many : (input : List ℕ) → most_fill < leading_fill input → before_frame input ≡ Err (at_place fill_over most_fill)
 before_many input many =
-    by_before (λ (s : Skipped). s ≡ Refused (at_place fill_over most_fill)) input (λ h. let z : ⊥ = omega arith in absurd z) (λ h. refl)
+    by_before (λ (s : Result ℕ Refusal). s ≡ Err (at_place fill_over most_fill)) input (λ h. let z : ⊥ = omega arith in absurd z) (λ h. refl)
 
--- a walk over the input that has passed i FF
-module _ (input : List ℕ) (i : ℕ) (passed : leading_fill input ≡ i + leading_fill (drop i input)) where
-  pub walk_more : i < length input → get_or input i 0 ≡ fill → leading_fill input ≡ i + 1 + leading_fill (drop (i + 1) input)
-  walk_more h e =
-      passed
-      ∙ ap (λ (l : List ℕ). i + leading_fill l) (drop-cons input i 0 h)
-      ∙ ap (λ (k : ℕ). i + k) (fill_more (get_or input i 0) (drop (suc i) input) e)
-      ∙ add-suc i (leading_fill (drop (suc i) input))
-      ∙ sym (suc-add i (leading_fill (drop (suc i) input)))
-      ∙ sym (ap (λ (n : ℕ). n + leading_fill (drop n input)) (add-one i))
+-- the FF among the first n bytes
+pub front_fill : (n : ℕ) (input : List ℕ) → leading_fill (take n input) ≡ min n (leading_fill input)
+unfolding leading_fill
+front_fill zero input = omega arith
+front_fill (suc n) [] = omega arith
+front_fill (suc n) (b ∷ bs) = by (eqb b fill) refl (front_fill n bs)
+  where
+    by : (t : Bool) → eqb b fill ≡ t → leading_fill (take n bs) ≡ min n (leading_fill bs)
+        → leading_fill (take (suc n) (b ∷ bs)) ≡ min (suc n) (leading_fill (b ∷ bs))
+    by true e below = simp e (omega arith)
+    by false e below = simp e (omega arith)
 
-  pub walk_ends : i < length input → (get_or input i 0 ≡ fill → ⊥) → leading_fill input ≡ i
-  walk_ends h ne =
-      passed
-      ∙ ap (λ (l : List ℕ). i + leading_fill l) (drop-cons input i 0 h)
-      ∙ ap (λ (k : ℕ). i + k) (fill_ends (get_or input i 0) (drop (suc i) input) ne)
-      ∙ add-zero i
-
-  pub walk_over : length input ≤ i → leading_fill input ≡ i
+-- a walk that looks at no more bytes than there may be FF, and one more, passes over all FF or over one too many
+module _ (input : List ℕ) (looked_at passed : ℕ) (bound : looked_at ≡ min (length input) (most_fill + 1))
+    (walk : passed ≡ leading_fill (take looked_at input)) where
+  passed_is : passed ≡ min (most_fill + 1) (leading_fill input)
   unfolding leading_fill
-  walk_over h = passed ∙ ap (λ (l : List ℕ). i + leading_fill l) (drop_of_length-le input h) ∙ add-zero i
+  passed_is = omega (arith, walk, front_fill looked_at input, prefix_len-le-length (λ b. eqb b fill) input)
+
+  pub walk_few : passed ≤ most_fill → before_frame input ≡ Ok passed
+  walk_few few = before_few input passed (omega (arith, passed_is)) few
+
+  pub walk_many : most_fill < passed → before_frame input ≡ Err (at_place fill_over most_fill)
+  walk_many many = before_many input (omega (arith, passed_is))

@@ -1,5 +1,6 @@
 -- Each outcome of the answer reader, by what its head check found and by the bytes of the input.
 -- Assumes nothing.
+use Rattle.std.specs.Prelude.{Ok, Err}
 use mathlib.Core.Path.{◌≡◌, sym, ap, ap₂, ◌∙◌}
 use mathlib.Core.List.{List}
 use Prim.Native.Nat.{ℕ, ◌+◌, ◌-◌, ◌<◌}
@@ -14,20 +15,19 @@ use Rattle.refusal.specs.declared.Refusal.{Refusal}
 use Rattle.framing.specs.Framing.{framed, framed_at}
 use Rattle.framing.specs.Layout.{device_found, end_of_scan, serial_limit, length_for}
 use Rattle.framing.specs.Head.{head_of}
-use Rattle.framing.specs.declared.Head.TheVariants.{Framed, Wrong}
 use Rattle.framing.proofs.Framing.{rest_length, carried_at}
 use Rattle.framing.proofs.HeadCheck.{head_framed_is, head_wrong_is}
 use Rattle.framing.proofs.ScanFrames.{scan_carries}
 use Rattle.answers.specs.Layout.{answer_framing}
 use Rattle.answers.specs.Reading.{serial_of, found, answered_by, answer_at}
-use Rattle.answers.specs.declared.AnswerRead.TheVariants.{Found, End, Refused}
+use Rattle.answers.specs.declared.AnswerRead.TheVariants.{Found, End}
 
 module _ (input : List ℕ) (at : ℕ) where
-  pub answer_refused : (why : Refusal) → head_of (framed_at answer_framing input at) ≡ Wrong why → answer_at input at ≡ Refused why
+  pub answer_refused : (why : Refusal) → head_of (framed_at answer_framing input at) ≡ Err why → answer_at input at ≡ Err why
   unfolding answer_at
   answer_refused why head = ap (answered_by at) (head_wrong_is (framed_at answer_framing input at) why head)
 
-  module _ (s : ℕ) (head : head_of (framed_at answer_framing input at) ≡ Framed s) where
+  module _ (s : ℕ) (head : head_of (framed_at answer_framing input at) ≡ Ok s) where
     abbrev first : List ℕ
     first = (head_framed_is (framed_at answer_framing input at) s head).0
 
@@ -37,7 +37,7 @@ module _ (input : List ℕ) (at : ℕ) where
     read : framed_at answer_framing input at ≡ framed first s carried
     read = (head_framed_is (framed_at answer_framing input at) s head).2
 
-    pub answer_end : (s ≡ device_found → ⊥) → answer_at input at ≡ End at
+    pub answer_end : (s ≡ device_found → ⊥) → answer_at input at ≡ Ok (End at)
     unfolding answer_at
     answer_end other = ap (answered_by at) read ∙ simp (ne_eqb s device_found other)
 
@@ -66,4 +66,4 @@ module _ (input : List ℕ) (at : ℕ) where
       answer_found =
           ap (answered_by at) read
           ∙ simp (eq-eqb s device_found is)
-          (ap₂ (λ (serial address : ℕ). pick (ltb serial serial_limit) (Found at serial address) (Refused (at_place serial_over (at + 3)))) same_serial (stands 4 (omega arith)))
+          (ap₂ (λ (serial address : ℕ). pick (ltb serial serial_limit) (Ok (Found at serial address)) (Err (at_place serial_over (at + 3)))) same_serial (stands 4 (omega arith)))

@@ -5,14 +5,14 @@
 // frame or nothing, and leaves the bytes behind it.
 #![tactic(auto)]
 
-ghost use Rattle.std.specs.Prelude.{◌≡◌, ◌+◌, ◌*◌, ◌<◌, min, length, get_or, drop};
+ghost use Rattle.std.specs.Prelude.{◌≡◌, ◌+◌, ◌<◌, min, length, drop};
 ghost use mathlib.Mathlib.Logic.Function.Defs.{id};
 ghost use Rattle.refusal.specs.Output.{Wrote};
-ghost use Rattle.answers.specs.Reading.{serial_of, before_frame, found, answer_at, read_answer};
+ghost use Rattle.answers.specs.Reading.{serial_of, leading_fill, before_frame, found, answer_at, read_answer};
 ghost use Rattle.answers.specs.Writing.{filled, write_found, write_end};
 
-use framing::{BROADCAST, END, EXTENDED, FOUND, Head, SERIAL_LIMIT, head_at, write_closed};
-use refusal::{FILL_OVER, Refusal, SERIAL_OVER, Written};
+use framing::{BROADCAST, END, EXTENDED, FOUND, SERIAL_LIMIT, head_at, write_closed};
+use refusal::{FILL_OVER, Refusal, SERIAL_OVER, refused};
 
 // The byte that a dominant window puts before an answer.
 pub const FILL: u8 = 0xFF;
@@ -20,14 +20,7 @@ pub const FILL: u8 = 0xFF;
 // No contest of devices has more dominant windows, so no answer stands behind more FF.
 pub const MOST_FILL: usize = 32;
 
-// What a reader passes over before a frame: so many FF, or the refusal of one FF more.
-#[derive(Clone, Copy)]
-pub enum Skipped {
-    Fill(usize),
-    Refused(Refusal),
-}
-
-// What the answer reader finds, with how many FF it passed over.
+// An answer that was read: what it says, and how many FF were passed over before it.
 #[derive(Clone, Copy)]
 pub enum AnswerRead {
     Found {
@@ -38,95 +31,80 @@ pub enum AnswerRead {
     End {
         skipped: usize,
     },
-    Refused(Refusal),
 }
 
 // ---- reading
 
 // What a reader of answers passes over: the FF that the input begins with. It looks no further than
 // the one that is too many.
-pub fn before_frame(input: &[u8]) -> Skipped
+pub fn before_frame(input: &[u8]) -> Result<usize, Refusal>
     ensures { result ≡ before_frame input.now }
 {
-    let mut i = 0;
-    while i < input.len() {
-        if input[i] != FILL {
-            return Skipped::Fill(i);
-        }
-        if i == MOST_FILL {
-            return Skipped::Refused(Refusal {
-                number: FILL_OVER,
-                place: i,
-            });
-        }
-        i += 1;
+    let looked_at = &input[..input.len().min(MOST_FILL + 1)];
+    let fill = leading_fill(looked_at);
+    if fill > MOST_FILL {
+        return refused(FILL_OVER, MOST_FILL);
     }
-    Skipped::Fill(i)
+    Ok(fill)
 }
 
-// Two bytes, high byte first.
-fn pair_at(input: &[u8], place: usize) -> u32
-    requires { place + 1 < length input.now }
-    ensures { (result ≡ get_or input.now place 0 * 256 + get_or input.now (place + 1) 0) × (result < 65536) }
+// How many FF these bytes begin with.
+#[tactic(auto, unfolding(crate::specs::Reading::leading_fill))]
+fn leading_fill(bytes: &[u8]) -> usize
+    ensures { result ≡ leading_fill bytes.now }
 {
-    let high = input[place] as u32;
-    let low = input[place + 1] as u32;
-    high * 256 + low
+    bytes.iter().take_while(|byte| **byte == FILL).count()
 }
 
 // Four bytes, high byte first.
+#[tactic(auto, unfolding(crate::specs::Reading::serial_of))]
 fn serial_at(input: &[u8], place: usize) -> u32
     requires { place + 3 < length input.now }
     ensures { result ≡ serial_of (drop place input.now) }
 {
-    pair_at(input, place) * 65536 + pair_at(input, place + 2)
+    u32::from_be_bytes([
+        input[place],
+        input[place + 1],
+        input[place + 2],
+        input[place + 3],
+    ])
 }
 
 // What the frame of a device found at this position says.
-fn found_at(input: &[u8], at: usize) -> AnswerRead
+fn found_at(input: &[u8], at: usize) -> Result<AnswerRead, Refusal>
     requires { at + 7 < length input.now }
     ensures { result ≡ found at (drop (at + 3) input.now) }
 {
     let serial = serial_at(input, at + 3);
     if serial < SERIAL_LIMIT {
-        return AnswerRead::Found {
+        return Ok(AnswerRead::Found {
             skipped: at,
             serial,
             address: input[at + 7],
-        };
+        });
     }
-    AnswerRead::Refused(Refusal {
-        number: SERIAL_OVER,
-        place: at + 3,
-    })
+    refused(SERIAL_OVER, at + 3)
 }
 
 // What an answer frame at this position says.
-fn answer_at(input: &[u8], at: usize) -> AnswerRead
+fn answer_at(input: &[u8], at: usize) -> Result<AnswerRead, Refusal>
     ensures { result ≡ answer_at input.now at }
 {
-    let head = head_at(FOUND, END, input, at);
-    match head {
-        Head::Framed(subcommand) => {
-            if subcommand != FOUND {
-                return AnswerRead::End { skipped: at };
-            }
-            found_at(input, at)
-        }
-        Head::Wrong(why) => AnswerRead::Refused(why),
+    let subcommand = head_at(FOUND, END, input, at)?;
+    if subcommand != FOUND {
+        return Ok(AnswerRead::End { skipped: at });
     }
+    found_at(input, at)
 }
 
 // What an answer says: a device found, with its serial and its address, or the end of the scan. Up to
 // 32 FF before the frame are passed over and counted, and the frame must fill the rest.
-pub fn read_answer(input: &[u8]) -> AnswerRead
+#[tactic(auto, unfolding(crate::specs::Reading::read_answer))]
+pub fn read_answer(input: &[u8]) -> Result<AnswerRead, Refusal>
     ensures { result ≡ read_answer input.now }
 {
-    let skipped = before_frame(input);
-    match skipped {
-        Skipped::Fill(at) => answer_at(input, at),
-        Skipped::Refused(why) => AnswerRead::Refused(why),
-    }
+    let at = before_frame(input)?;
+    answer_at(input, at)
 }
 
 // ---- writing
@@ -136,40 +114,25 @@ pub fn read_answer(input: &[u8]) -> AnswerRead
 pub fn put_fill(count: usize, out: &mut [u8])
     ensures { out.new ≡ filled (min count (length out.old)) out.old }
 {
-    let n = lists::smaller(count, out.len());
-    let mut at = 0;
-    while at < n {
-        out[at] = FILL;
-        at += 1;
-    }
+    let n = count.min(out.len());
+    out[..n].fill(FILL);
 }
 
 // Writes the answer of a device with this serial and this address. A serial of 2^28 or more is
 // refused before the room is looked at.
-pub fn write_found(serial: u32, address: u8, out: &mut [u8]) -> Written
+pub fn write_found(serial: u32, address: u8, out: &mut [u8]) -> Result<usize, Refusal>
     ensures { Wrote id (write_found serial address (length out.old)) result out.old out.new }
 {
     if serial >= SERIAL_LIMIT {
-        return Written::Refused(Refusal {
-            number: SERIAL_OVER,
-            place: 0,
-        });
+        return refused(SERIAL_OVER, 0);
     }
-    let body = [
-        BROADCAST,
-        EXTENDED,
-        FOUND,
-        (serial / 0x1000000) as u8,
-        (serial / 0x10000 % 256) as u8,
-        (serial / 0x100 % 256) as u8,
-        (serial % 256) as u8,
-        address,
-    ];
+    let [a, b, c, d] = serial.to_be_bytes();
+    let body = [BROADCAST, EXTENDED, FOUND, a, b, c, d, address];
     write_closed(&body, out)
 }
 
 // Writes the answer that ends a scan.
-pub fn write_end(out: &mut [u8]) -> Written
+pub fn write_end(out: &mut [u8]) -> Result<usize, Refusal>
     ensures { Wrote id (write_end (length out.old)) result out.old out.new }
 {
     let body = [BROADCAST, EXTENDED, END];

@@ -4,12 +4,17 @@
 use mathlib.Core.Path.{◌≡◌, refl, sym, ap, ◌∙◌, subst}
 use mathlib.Core.Bool.{Bool, true, false, ◌||◌}
 use mathlib.Core.List.{List, [], ◌∷◌}
-use Prim.Native.Nat.{ℕ, zero, suc, ◌+◌, ◌<◌}
+use Prim.Native.Nat.{ℕ, zero, suc, ◌+◌, ◌≤◌, ◌<◌}
 use native.Mathlib.Nat.{div-one}
 use native.Mathlib.Omega.{arith}
-use lib.Dec.{eqb}
+use lib.Dec.{eqb, ltb}
 use lib.ListN.{length, get_or}
-use borrow.Author.Tests.{eq-eqb, ne_eqb}
+use Rattle.std.proofs.lemmas.List.Recursion.{is_position_or_len}
+use Rattle.std.proofs.lemmas.List.Sums.{prefix_len-le-length}
+use Rattle.std.specs.Prelude.{cond, Some, None, not}
+use Rattle.std.specs.List.{position as first_place, position_or_len}
+use Rattle.std.specs.Option.{unwrap_or}
+use borrow.Author.Tests.{eq-eqb, ne_eqb, ltb-false}
 use Rattle.lists.specs.Choice.{pick}
 use Rattle.lists.specs.Tests.{any, keep, how_many, position}
 use Rattle.lists.proofs.Cases.{by_test, true_not_false, either_second}
@@ -58,6 +63,22 @@ module _ (w windows key before : ℕ) (one_more : windows ≡ suc w) where
   window_one e = omega (arith, one_window false e)
 
 -- ---- the first key that passes a test
+
+-- as the library finds it
+pub first_is : (f : ℕ → Bool) (xs : List ℕ) → first_with f xs ≡ unwrap_or (first_place f xs) (length xs)
+unfolding first_with
+first_is f xs =
+    let place = position_or_len f xs in
+    let found : first_with f xs ≡ place = is_position_or_len (first_with f) f refl (λ x rest. one (f x) (first_with f rest)) xs in
+    let most : place ≤ length xs = prefix_len-le-length (λ x. not (f x)) xs in
+    found ∙ by_test (ltb place (length xs))
+    (λ e. sym (ap (λ (b : Bool). unwrap_or (cond b (Some place) None) (length xs)) e))
+    (λ e. let end : place ≡ length xs = omega (arith, most, ltb-false place (length xs) e) in
+    end ∙ sym (ap (λ (b : Bool). unwrap_or (cond b (Some place) None) (length xs)) e))
+  where
+    one : (b : Bool) (n : ℕ) → pick b 0 (suc n) ≡ cond b 0 (1 + n)
+    one true n = refl
+    one false n = omega arith
 
 -- it passes
 pub first_passes : (f : ℕ → Bool) (xs : List ℕ) → any f xs ≡ true → (first_with f xs < length xs) × (f (get_or xs (first_with f xs) 0) ≡ true)

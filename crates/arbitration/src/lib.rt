@@ -7,6 +7,7 @@
 #![tactic(auto)]
 
 ghost use Rattle.std.specs.Prelude.{◌≡◌, true, [], ◌∷◌, ◌+◌, ◌*◌, ◌^◌, ◌≤◌, ◌<◌, length};
+ghost use Rattle.std.specs.List.{count_by};
 ghost use Rattle.lists.specs.Tests.{any, how_many};
 ghost use Rattle.arbitration.specs.Contest.{dominant_windows, fits, decided};
 ghost use Rattle.arbitration.specs.Prefix.{starts, first_with, decided_within};
@@ -31,15 +32,13 @@ pub struct Decided {
 // time.
 fn count_part(keys: &[u32], windows: u32, prefix: u32) -> u32
     requires { (windows < 32) × (length keys.now ≤ 65536) }
-    ensures { result ≡ how_many (starts windows prefix) keys.now }
+    ensures { result ≡ count_by (starts windows prefix) keys.now }
 {
     let mut count: u32 = 0;
-    let mut i = 0;
-    while i < keys.len() {
-        if keys[i] >> windows == prefix {
+    for key in keys {
+        if *key >> windows == prefix {
             count += 1;
         }
-        i += 1;
     }
     count
 }
@@ -50,13 +49,10 @@ fn how_many(keys: &[u32], windows: u32, prefix: u32) -> usize
     ensures { result ≡ how_many (starts windows prefix) keys.now }
 {
     let mut count: usize = 0;
-    let mut from = 0;
-    while keys.len() - from > PART {
-        let to = from + PART;
-        count += count_part(&keys[from..to], windows, prefix) as usize;
-        from = to;
+    for part in keys.chunks(PART) {
+        count += count_part(part, windows, prefix) as usize;
     }
-    count + count_part(&keys[from..], windows, prefix) as usize
+    count
 }
 
 // Whether any key contends over so many windows.
@@ -64,7 +60,7 @@ fn some_fits(keys: &[u32], windows: u32) -> bool
     ensures { result ≡ any (fits windows) keys.now }
 {
     if windows >= KEY_BITS {
-        return keys.len() > 0;
+        return !keys.is_empty();
     }
     how_many(keys, windows, 0) > 0
 }
@@ -74,14 +70,9 @@ fn first_with(keys: &[u32], windows: u32, prefix: u32) -> usize
     requires { windows < 32 }
     ensures { result ≡ first_with (starts windows prefix) keys.now }
 {
-    let mut i = 0;
-    while i < keys.len() {
-        if keys[i] >> windows == prefix {
-            return i;
-        }
-        i += 1;
-    }
-    i
+    keys.iter()
+        .position(|key| *key >> windows == prefix)
+        .unwrap_or(keys.len())
 }
 
 // How many windows are dominant, these and those still to come, where one key is left: each window

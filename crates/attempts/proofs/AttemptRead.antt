@@ -1,22 +1,23 @@
 -- What an attempt says of the run: what was taken was read where it starts, and a NACK's FF is the byte that decides.
 -- Assumes nothing.
+use Rattle.std.specs.Prelude.{Result, Ok}
 use mathlib.Core.Path.{◌≡◌, refl, sym, ap, ◌∙◌, subst}
 use mathlib.Core.Bool.{Bool, true, false}
 use mathlib.Core.List.{List}
 use Prim.Native.Nat.{ℕ, ◌+◌, ◌-◌}
 use Rattle.lists.specs.Choice.{pick}
 use Rattle.lists.proofs.Cases.{pick_cases}
+use Rattle.refusal.specs.declared.Refusal.{Refusal}
 use Rattle.escapes.specs.Logical.{logicals_at}
 use Rattle.checkbyte.specs.BitByBit.{EbusTables}
 use Rattle.checkbyte.proofs.CheckByte.{Bytes}
 use Rattle.telegram.specs.Telegram.{Telegram, read, unread, check_right, telegram_at}
 use Rattle.attempts.specs.Attempt.{Acknowledge, positive, negative, invalid, acknowledge_at, acknowledged, on_acknowledge, unanswered, on_telegram, ending_at, Attempt, taken, nacked, failed, settled_by, attempt_at, attempt_by}
 use Rattle.attempts.specs.Looks.{looked_by, looked_at}
-use Rattle.attempts.specs.View.{attempt_as, attempt_of}
+use Rattle.attempts.specs.View.{attempt_as, ended_as, attempt_of}
 use Rattle.attempts.specs.Inner.{Reads}
 use Rattle.attempts.specs.declared.Attempt.{Attempt as AttemptStruct}
-use Rattle.attempts.specs.declared.Standing.{Standing}
-use Rattle.attempts.specs.declared.Standing.TheVariants.{Nacked}
+use Rattle.attempts.specs.declared.Ended.{Ended as EndedStruct}
 use Rattle.attempts.proofs.FromRun.{negative_there}
 use Rattle.attempts.proofs.ByTables.{by_ebus}
 
@@ -83,10 +84,15 @@ nack_last command run at s place e = subst (NackLast (looked_at command run at))
 -- ---- an answer of `attempt_at`, by the eBUS tables
 
 module _ {tables : List ℕ} (is_tables : EbusTables tables) (command : Bool) (run : List ℕ) (at : ℕ) (each : Bytes run) (a : AttemptStruct) (is : attempt_of a run at ≡ attempt_by tables command run at) where
-  pub attempt_told : (standing : Standing) → a.standing ≡ standing → attempt_at command run at ≡ attempt_as (logicals_at run a.len at) a.next a.why standing
-  attempt_told standing told =
-      sym (by_ebus is_tables command run at each) ∙ sym is ∙ ap (attempt_as (logicals_at run a.len at) a.next a.why) told
+  pub attempt_told : (ended : Result EndedStruct Refusal) → a.ended ≡ ended → attempt_at command run at ≡ ended_as ended a.next run at
+  attempt_told ended told =
+      sym (by_ebus is_tables command run at each) ∙ sym is ∙ ap (λ (x : Result EndedStruct Refusal). ended_as x a.next run at) told
+
+  pub ended_told : (ended : EndedStruct) → a.ended ≡ Ok ended → (which : Bool) → ended.taken ≡ which
+      → attempt_at command run at ≡ attempt_as (logicals_at run ended.len at) a.next which
+  ended_told ended told which is_that = attempt_told (Ok ended) told ∙ ap (attempt_as (logicals_at run ended.len at) a.next) is_that
 
   -- the FF of a NACK is the byte before
-  pub nack_told : a.next ≡ looked_at command run at → a.standing ≡ Nacked → a.next ≡ a.next - 1 + 1
-  nack_told looked told = looked ∙ nack_last command run at (logicals_at run a.len at) (a.next - 1) (attempt_told Nacked told)
+  pub nack_told : a.next ≡ looked_at command run at → (ended : EndedStruct) → a.ended ≡ Ok ended → ended.taken ≡ false → a.next ≡ a.next - 1 + 1
+  nack_told looked ended told which =
+      looked ∙ nack_last command run at (logicals_at run ended.len at) (a.next - 1) (ended_told ended told false which)

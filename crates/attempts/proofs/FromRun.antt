@@ -1,19 +1,19 @@
 -- How an attempt goes on behind a telegram, by where it stands in the run.
 -- Assumes nothing.
+use Rattle.std.specs.Prelude.{Result, Ok, Err}
 use mathlib.Core.Path.{◌≡◌, refl, sym, ap, ◌∙◌, subst}
 use mathlib.Core.Bool.{Bool, true, false, ◌&&◌}
 use mathlib.Core.List.{List, ◌++◌}
 use Prim.Native.Nat.{ℕ, ◌+◌, ◌-◌, ◌≤◌, ◌<◌}
 use native.Mathlib.Omega.{arith}
-use lib.Dec.{eqb, leb, ltb}
+use lib.Dec.{eqb, ltb}
 use lib.ListN.{length, get_or, take, drop}
 use lib.Seq.{take-length}
-use borrow.Author.Tests.{le-leb, lt-leb, eq-eqb, ne_eqb}
 use Rattle.lists.specs.Choice.{pick}
 use Rattle.lists.proofs.Cases.{pick_cases}
 use Rattle.refusal.specs.Number.{source_wrong, check_wrong, at_place}
 use Rattle.refusal.specs.declared.Refusal.{Refusal}
-use Rattle.escapes.specs.Escape.{esc, syn, expanded}
+use Rattle.escapes.specs.Escape.{syn, expanded}
 use Rattle.escapes.specs.Logical.{logicals_at}
 use Rattle.addresses.specs.Address.{kind_of}
 use Rattle.checkbyte.specs.BitByBit.{check_by}
@@ -37,18 +37,16 @@ ready_none command run start = record { room = none command; size = refl; rest =
     none true = omega arith
     none false = omega arith
 
-pub ready_zero : (command : Bool) (run : List ℕ) (start n : ℕ) → n ≡ 0 → Ready command run start n
-ready_zero command run start n e = subst (Ready command run start) (sym e) (ready_none command run start)
-
 -- the part of a run that is all of it
-pub all_of_it : (command : Bool) (run : List ℕ) (at : ℕ) {t : Extent} → t ≡ extent_of (telegram_at command (take (length run) run) at) → t ≡ extent_of (telegram_at command run at)
+pub all_of_it : (command : Bool) (run : List ℕ) (at : ℕ) {x : Result Extent Refusal} → x ≡ extent_of (telegram_at command (take (length run) run) at)
+    → x ≡ extent_of (telegram_at command run at)
 all_of_it command run at is = is ∙ ap (λ (r : List ℕ). extent_of (telegram_at command r at)) (take-length run)
 
-module _ (command : Bool) (run : List ℕ) (at : ℕ) (t : Extent) (is : t ≡ extent_of (telegram_at command run at)) where
-  module _ (told : t.whole ≡ true) where
+module _ (command : Bool) (run : List ℕ) (at : ℕ) where
+  module _ (t : Extent) (told : Ok t ≡ extent_of (telegram_at command run at)) where
     whole : (telegram_at command run at ≡ read (logicals_at run t.len at) t.last t.next) × (last_of (logicals_at run t.len at) ≡ t.value)
     whole =
-        let w = told_read (telegram_at command run at) t is told in
+        let w = told_read (telegram_at command run at) t told in
         let there : w.bytes ≡ logicals_at run t.len at =
         sym (telegram_bytes command run at w.bytes t.last t.next w.is) ∙ ap (λ (n : ℕ). logicals_at run n at) w.size in
         (w.is ∙ ap (λ (s : List ℕ). read s t.last t.next) there, ap last_of (sym there) ∙ w.final)
@@ -69,7 +67,7 @@ module _ (command : Bool) (run : List ℕ) (at : ℕ) (t : Extent) (is : t ≡ e
 
     pub ready_read : Ready command run at t.len
     ready_read =
-        let w = told_read (telegram_at command run at) t is told in
+        let w = told_read (telegram_at command run at) t told in
         let there : logicals_at run t.len at ≡ w.bytes =
         ap (λ (n : ℕ). logicals_at run n at) (sym w.size) ∙ telegram_bytes command run at w.bytes t.last t.next w.is in
         let st = stood command run at w.bytes t.last t.next w.is in
@@ -108,20 +106,20 @@ module _ (command : Bool) (run : List ℕ) (at : ℕ) (t : Extent) (is : t ≡ e
       unfolding looked_at
       looked_is = ap (looked_by command run) whole.0 ∙ ap (λ x. pick x t.next (t.next + 1)) (unanswered_is ∙ e)
 
-  module _ (told : t.whole ≡ false) where
-    refused : telegram_at command run at ≡ unread t.why
-    refused = told_unread (telegram_at command run at) t is told
+  module _ (why : Refusal) (told : Err why ≡ extent_of (telegram_at command run at)) where
+    refused : telegram_at command run at ≡ unread why
+    refused = told_unread (telegram_at command run at) why told
 
-    pub attempt_refused : (tables : List ℕ) → attempt_by tables command run at ≡ failed t.why
+    pub attempt_refused : (tables : List ℕ) → attempt_by tables command run at ≡ failed why
     unfolding attempt_by ending_at
     attempt_refused tables = ap (λ x. settled_by (right_by tables run at) (on_telegram command run x)) refused
 
-    pub looked_refused : looked_at command run at ≡ known_behind run t.why
+    pub looked_refused : looked_at command run at ≡ known_behind run why
     unfolding looked_at
     looked_refused = ap (looked_by command run) refused
 
-    pub place_within : (t.why.place ≤ length run) × (source_wrong ≤ t.why.number → t.why.place < length run)
-    place_within = refused_within command run at t.why refused
+    pub place_within : (why.place ≤ length run) × (source_wrong ≤ why.number → why.place < length run)
+    place_within = refused_within command run at why refused
 
 -- ---- the check byte, and the acknowledge byte
 
@@ -152,23 +150,3 @@ acknowledge_stands run at =
 
 pub negative_there : (run : List ℕ) (at place : ℕ) → acknowledge_at run at ≡ negative place → place ≡ at
 negative_there run at place e = subst (Stands at) e (acknowledge_stands run at)
-
--- ---- where a refusal is known
-
-module _ (run : List ℕ) (why : Refusal) where
-  known_by : (n more : ℕ) (field escaped : Bool) → pick field (pick escaped 1 0) 0 ≡ more → n ≡ why.place + 1 + more
-      → leb source_wrong why.number ≡ field → eqb (get_or run why.place 0) esc ≡ escaped → n ≡ known_behind run why
-  known_by n more field escaped is e f g =
-      e
-      ∙ ap (λ (k : ℕ). why.place + 1 + k) (sym is)
-      ∙ ap (λ (x : Bool). why.place + 1 + pick x (pick escaped 1 0) 0) (sym f)
-      ∙ ap (λ (x : Bool). why.place + 1 + pick (leb source_wrong why.number) (pick x 1 0) 0) (sym g)
-
-  pub known_at_once : why.number < source_wrong → why.place + 1 ≡ known_behind run why
-  known_at_once h = let n : why.place + 1 ≡ why.place + 1 + 0 = omega arith in known_by _ 0 false _ refl n (lt-leb _ _ h) refl
-
-  pub known_escaped : source_wrong ≤ why.number → get_or run why.place 0 ≡ esc → why.place + 2 ≡ known_behind run why
-  known_escaped h e = let n : why.place + 2 ≡ why.place + 1 + 1 = omega arith in known_by _ 1 true true refl n (le-leb _ _ h) (eq-eqb _ _ e)
-
-  pub known_plain : source_wrong ≤ why.number → (get_or run why.place 0 ≡ esc → ⊥) → why.place + 1 ≡ known_behind run why
-  known_plain h e = let n : why.place + 1 ≡ why.place + 1 + 0 = omega arith in known_by _ 0 true false refl n (le-leb _ _ h) (ne_eqb _ _ e)

@@ -1,6 +1,7 @@
 -- How far an attempt looks: on a run that ends before the byte that decides it, it is refused by the run's end; on any longer
 -- one it is the same. And how far that is at most.
 -- Assumes nothing.
+use Rattle.std.specs.Prelude.{Result, Ok, Err}
 use mathlib.Core.Path.{◌≡◌, refl, sym, ap, ◌∙◌, subst}
 use mathlib.Core.Bool.{Bool, true, false}
 use mathlib.Core.List.{List, [], ◌∷◌, ◌++◌}
@@ -15,8 +16,6 @@ use Rattle.lists.proofs.Cases.{pick_cases, true_not_false, le_or_lt}
 use Rattle.refusal.specs.Number.{source_wrong, syn_early, bus_error, at_place}
 use Rattle.refusal.specs.declared.Refusal.{Refusal}
 use Rattle.escapes.specs.Escape.{esc, syn}
-use Rattle.escapes.specs.declared.Logical.{Logical}
-use Rattle.escapes.specs.declared.Logical.TheVariants.{Byte, Refused}
 use Rattle.escapes.specs.Logical.{run_over, logical_at}
 use Rattle.escapes.proofs.LogicalBytes.{Stands, logical_stands}
 use Rattle.escapes.proofs.Looked.{Looks, looked_byte, Reached, reached, logical_looks}
@@ -41,7 +40,7 @@ fault_number DST b = pick_cases (λ k. eqb k 0 ≡ false → source_wrong ≤ k)
 fault_number LEN b = pick_cases (λ k. eqb k 0 ≡ false → source_wrong ≤ k) (leb b longest) _ _ (λ _ f. true_not_false refl f) (λ _ _. omega arith)
 fault_number unjudged b = λ f. true_not_false refl f
 
-fault_behind : (run : List ℕ) (field : Field) (b at next : ℕ) → Reached run at (Byte b next) → eqb (fault_of field b) 0 ≡ false
+fault_behind : (run : List ℕ) (field : Field) (b at next : ℕ) → Reached run at (Ok (b, next)) → eqb (fault_of field b) 0 ≡ false
     → known_behind run (at_place (fault_of field b) at) ≡ next
 fault_behind run field b at next is faulty =
     ap (λ (t : Bool). at + 1 + pick t (pick {A = ℕ} (eqb (get_or run at 0) esc) 1 0) 0) (le-leb source_wrong (fault_of field b) (fault_number field b faulty)) ∙ sym is
@@ -59,13 +58,13 @@ module _ (run : List ℕ) (field : Field) (at : ℕ) where
   Between from n t = (from ≤ behind run t) × (behind run t ≤ from + 2 * n)
 
   byte_between : (n : ℕ) (rest : ℕ → ℕ → Telegram) → ((b next : ℕ) → next ≤ length run → Between next n (rest b next))
-      → at ≤ length run → (l : Logical) → Stands run at l → Reached run at l → Between at (suc n) (on_byte field at l rest)
-  byte_between n rest each h (Byte b next) st is =
+      → at ≤ length run → (l : Result (ℕ × ℕ) Refusal) → Stands run at l → Reached run at l → Between at (suc n) (on_byte field at l rest)
+  byte_between n rest each h (Ok (b, next)) st is =
       let two : next ≤ at + 2 = pick_cases (λ (k : ℕ). next ≡ at + 1 + k → next ≤ at + 2) (eqb (get_or run at 0) esc) 1 0 (λ _ e. omega arith) (λ _ e. omega arith) is in
       pick_cases (Between at (suc n)) (eqb (fault_of field b) 0) _ _
       (λ _. let more = each b next st.1 in (omega (arith, more.0, st.0), omega (arith, more.1)))
       (λ f. let far = fault_behind run field b at next is f in (omega (arith, far, st.0), omega (arith, far)))
-  byte_between n rest each h (Refused why) st is =
+  byte_between n rest each h (Err why) st is =
       let far = why_behind run why is.0 in
       let there = is.1 h in
       (omega (arith, far, there.0), omega (arith, far, there.1))
@@ -89,28 +88,28 @@ looks_pick looked n ended x x' y y' false p q = q refl
 module _ (run more : List ℕ) where
   module _ (field : Field) (at : ℕ) (rest rest' : ℕ → ℕ → Telegram) where
     far_byte : ((b next : ℕ) → next ≤ length (run ++ more) → next ≤ behind (run ++ more) (rest' b next))
-        → (l : Logical) → Stands (run ++ more) at l → Reached (run ++ more) at l → length run < looked_byte l → length run < behind (run ++ more) (on_byte field at l rest')
-    far_byte on (Byte b next) st is far =
+        → (l : Result (ℕ × ℕ) Refusal) → Stands (run ++ more) at l → Reached (run ++ more) at l → length run < looked_byte l → length run < behind (run ++ more) (on_byte field at l rest')
+    far_byte on (Ok (b, next)) st is far =
         pick_cases (λ (t : Telegram). length run < behind (run ++ more) t) (eqb (fault_of field b) 0) _ _ (λ _. omega (arith, on b next st.1))
         (λ f. omega (arith, fault_behind (run ++ more) field b at next is f))
-    far_byte on (Refused why) st is far = omega (arith, why_behind (run ++ more) why is.0)
+    far_byte on (Err why) st is far = omega (arith, why_behind (run ++ more) why is.0)
 
     near_byte : ((b next : ℕ) → next ≤ length run → Looks (length run) (behind (run ++ more) (rest' b next)) (unread (run_over run)) (rest b next) (rest' b next))
-        → (l : Logical) → Reached (run ++ more) at l → looked_byte l ≤ length run
+        → (l : Result (ℕ × ℕ) Refusal) → Reached (run ++ more) at l → looked_byte l ≤ length run
         → Looks (length run) (behind (run ++ more) (on_byte field at l rest')) (unread (run_over run)) (on_byte field at l rest) (on_byte field at l rest')
-    near_byte each (Byte b next) is near =
+    near_byte each (Ok (b, next)) is near =
         let wrong = unread (at_place (fault_of field b) at) in
         looks_pick (behind (run ++ more)) (length run) (unread (run_over run)) (rest b next) (rest' b next) wrong wrong (eqb (fault_of field b) 0) (λ _. each b next near)
         (λ f. inr (refl, omega (arith, fault_behind (run ++ more) field b at next is f)))
-    near_byte each (Refused why) is near = inr (refl, omega (arith, why_behind (run ++ more) why is.0))
+    near_byte each (Err why) is near = inr (refl, omega (arith, why_behind (run ++ more) why is.0))
 
     byte_looks : ((b next : ℕ) → next ≤ length (run ++ more) → next ≤ behind (run ++ more) (rest' b next))
         → ((b next : ℕ) → next ≤ length run → Looks (length run) (behind (run ++ more) (rest' b next)) (unread (run_over run)) (rest b next) (rest' b next))
-        → (l l' : Logical) → Stands (run ++ more) at l' → Reached (run ++ more) at l' → Looks (length run) (looked_byte l') (Refused (run_over run)) l l'
+        → (l l' : Result (ℕ × ℕ) Refusal) → Stands (run ++ more) at l' → Reached (run ++ more) at l' → Looks (length run) (looked_byte l') (Err (run_over run)) l l'
         → Looks (length run) (behind (run ++ more) (on_byte field at l' rest')) (unread (run_over run)) (on_byte field at l rest) (on_byte field at l' rest')
-    byte_looks on each l l' st is (inl h) = inl (ap (λ (x : Logical). on_byte field at x rest) h.0, far_byte on l' st is h.1)
+    byte_looks on each l l' st is (inl h) = inl (ap (λ (x : Result (ℕ × ℕ) Refusal). on_byte field at x rest) h.0, far_byte on l' st is h.1)
     byte_looks on each l l' st is (inr h) =
-        subst (λ (x : Logical). Looks (length run) (behind (run ++ more) (on_byte field at l' rest')) (unread (run_over run)) (on_byte field at x rest) (on_byte field at l' rest')) h.0
+        subst (λ (x : Result (ℕ × ℕ) Refusal). Looks (length run) (behind (run ++ more) (on_byte field at l' rest')) (unread (run_over run)) (on_byte field at x rest) (on_byte field at l' rest')) h.0
         (near_byte each l' is h.1)
 
   collected_looks : (command : Bool) (n : ℕ) (so_far : List ℕ) (last at : ℕ) → at ≤ length run
@@ -269,10 +268,10 @@ abbrev Numbered : Telegram → Type 0
 Numbered (read telegram last next) = Unit {0}
 Numbered (unread why) = 0 < why.number
 
-byte_numbered : (run : List ℕ) (field : Field) (at : ℕ) (rest : ℕ → ℕ → Telegram) → ((b next : ℕ) → Numbered (rest b next)) → (l : Logical) → Reached run at l → Numbered (on_byte field at l rest)
-byte_numbered run field at rest each (Byte b next) is =
+byte_numbered : (run : List ℕ) (field : Field) (at : ℕ) (rest : ℕ → ℕ → Telegram) → ((b next : ℕ) → Numbered (rest b next)) → (l : Result (ℕ × ℕ) Refusal) → Reached run at l → Numbered (on_byte field at l rest)
+byte_numbered run field at rest each (Ok (b, next)) is =
     pick_cases Numbered (eqb (fault_of field b) 0) _ _ (λ _. each b next) (λ f. let six = fault_number field b f in omega arith)
-byte_numbered run field at rest each (Refused why) is = is.2
+byte_numbered run field at rest each (Err why) is = is.2
 
 module _ (command : Bool) (run : List ℕ) where
   collected_numbered : (n : ℕ) (so_far : List ℕ) (last at : ℕ) → Numbered (collected command run n so_far last at)

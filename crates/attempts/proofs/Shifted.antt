@@ -1,5 +1,7 @@
 -- Bytes in front: an attempt behind some other bytes is the attempt without them, with every position so much later.
 -- Assumes nothing.
+use Rattle.std.specs.Prelude.{Result, Ok, Err}
+use Rattle.refusal.specs.declared.Refusal.{Refusal}
 use mathlib.Core.Path.{◌≡◌, refl, ap, ◌∙◌}
 use mathlib.Core.Bool.{Bool}
 use mathlib.Core.List.{List, [], ◌∷◌, ◌++◌}
@@ -10,8 +12,6 @@ use lib.ListN.{length, get_or}
 use Rattle.lists.specs.Choice.{pick}
 use Rattle.refusal.specs.Number.{syn_early, bus_error, at_place}
 use Rattle.escapes.specs.Escape.{syn}
-use Rattle.escapes.specs.declared.Logical.{Logical}
-use Rattle.escapes.specs.declared.Logical.TheVariants.{Byte, Refused}
 use Rattle.escapes.specs.Logical.{logical_at}
 use Rattle.escapes.proofs.Shifted.{later_refusal, later_byte, later_pick, later_over, later_byte_lem, later_logical}
 use Rattle.telegram.specs.Telegram.{head_of, length_place, check_right, Field, field_at, fault_of, Telegram, read, unread, on_byte, collected, on_head, telegram_at}
@@ -42,9 +42,9 @@ later_attempt k (failed why) = failed (later_refusal k why)
 
 module _ (before run : List ℕ) (command : Bool) where
   on_byte_lem : (field : Field) (at : ℕ) (rest rest' : ℕ → ℕ → Telegram) → ((b next : ℕ) → rest' b (length before + next) ≡ later_telegram (length before) (rest b next))
-      → (l : Logical) → on_byte field (length before + at) (later_byte (length before) l) rest' ≡ later_telegram (length before) (on_byte field at l rest)
-  on_byte_lem field at rest rest' each (Byte b next) = later_pick (later_telegram (length before)) (eqb (fault_of field b) 0) (each b next) refl
-  on_byte_lem field at rest rest' each (Refused why) = refl
+      → (l : Result (ℕ × ℕ) Refusal) → on_byte field (length before + at) (later_byte (length before) l) rest' ≡ later_telegram (length before) (on_byte field at l rest)
+  on_byte_lem field at rest rest' each (Ok (b, next)) = later_pick (later_telegram (length before)) (eqb (fault_of field b) 0) (each b next) refl
+  on_byte_lem field at rest rest' each (Err why) = refl
 
   later_collected : (n : ℕ) (so_far : List ℕ) (last at : ℕ)
       → collected command (before ++ run) n so_far (length before + last) (length before + at) ≡ later_telegram (length before) (collected command run n so_far last at)
@@ -53,7 +53,7 @@ module _ (before run : List ℕ) (command : Bool) where
   later_collected (suc n) so_far last at =
       let field = field_at command (length so_far) in
       let rest : List ℕ → ℕ → ℕ → ℕ → Telegram = λ r place b next. collected command r n (so_far ++ b ∷ []) place next in
-      ap (λ (l : Logical). on_byte field (length before + at) l (rest (before ++ run) (length before + at))) (later_logical before run at)
+      ap (λ (l : Result (ℕ × ℕ) Refusal). on_byte field (length before + at) l (rest (before ++ run) (length before + at))) (later_logical before run at)
       ∙ on_byte_lem field at (rest run at) (rest (before ++ run) (length before + at)) (λ b next. later_collected n (so_far ++ b ∷ []) at next) (logical_at run at)
 
   on_head_lem : (t : Telegram) → on_head command (before ++ run) (later_telegram (length before) t) ≡ later_telegram (length before) (on_head command run t)

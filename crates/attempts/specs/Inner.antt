@@ -1,12 +1,13 @@
 -- What only private contracts need, here and in the crate above.
 -- Assumes nothing.
-use Rattle.std.specs.Prelude.{◌≡◌, Bool, ℕ, ◌+◌, ◌-◌, ◌≤◌, List, eqb, length, take, drop}
+use Rattle.std.specs.Prelude.{◌≡◌, Bool, ℕ, ◌+◌, ◌-◌, ◌≤◌, List, eqb, length, take, drop, Result, Ok, Err}
+use Rattle.refusal.specs.declared.Refusal.{Refusal}
 use Rattle.escapes.specs.Logical.{logicals_at}
 use Rattle.checkbyte.specs.BitByBit.{check_by}
 use Rattle.telegram.specs.declared.Extent.{Extent}
 use Rattle.telegram.specs.Telegram.{last_of, read, telegram_at}
 use Rattle.attempts.specs.declared.Acknowledge.{Acknowledge as AcknowledgeByte}
-use Rattle.attempts.specs.declared.Acknowledge.TheVariants.{Positive, Negative, Invalid}
+use Rattle.attempts.specs.declared.Acknowledge.TheVariants.{Positive, Negative}
 use Rattle.attempts.specs.Attempt.{Acknowledge, positive, negative, invalid}
 
 -- a telegram of these bytes is read at a position
@@ -22,11 +23,11 @@ pub record ReadFrom (run : List ℕ) (start : ℕ) (t : Extent) : Type 0 where
   pub ends : t.last ≤ length run
   pub behind : t.next ≤ length run
 
--- the acknowledge byte at a position
-abbrev pub acknowledge_of : AcknowledgeByte → ℕ → Acknowledge
-acknowledge_of Positive at = positive (at + 1)
-acknowledge_of Negative at = negative at
-acknowledge_of (Invalid why) at = invalid why
+-- the acknowledge byte at a position, or why there is none
+abbrev pub acknowledge_of : Result AcknowledgeByte Refusal → ℕ → Acknowledge
+acknowledge_of (Ok Positive) at = positive (at + 1)
+acknowledge_of (Ok Negative) at = negative at
+acknowledge_of (Err why) at = invalid why
 
 -- whether the check byte at a place is right, by two tables
 abbrev pub right_by : List ℕ → List ℕ → ℕ → List ℕ → ℕ → Bool

@@ -4,20 +4,20 @@
 // its bytes are taken from the run once the exchange is accepted.
 #![tactic(auto)]
 
-ghost use Rattle.std.specs.Prelude.{◌≡◌, ◌+◌, ◌≤◌, ◌<◌, length, get_or, Bool, true, ◌&&◌};
+ghost use Rattle.std.specs.Prelude.{◌≡◌, ℕ, ◌+◌, ◌≤◌, ◌<◌, length, get_or, true, ◌&&◌, Ok};
 ghost use Rattle.refusal.specs.Number.{source_wrong, at_place};
 ghost use Rattle.escapes.specs.Logical.{logicals_at};
 ghost use Rattle.addresses.specs.Address.{kind_of};
 ghost use Rattle.attempts.specs.Attempt.{acknowledge_at, acknowledged, on_acknowledge, to_all, settled_by, attempt_by};
 ghost use Rattle.attempts.specs.Looks.{known_behind, looked_at};
-ghost use Rattle.attempts.specs.declared.Standing.TheVariants.{Failed};
-ghost use Rattle.attempts.specs.View.{attempt_of, Ready};
+ghost use Rattle.attempts.specs.declared.Ended.{Ended as EndedStruct};
+ghost use Rattle.attempts.specs.View.{ended_as, attempt_of, Ready};
 ghost use Rattle.attempts.specs.Inner.{ReadFrom, acknowledge_of, right_by};
 
 use addresses::{ExchangeKind, kind};
 use checkbyte::wire_check;
 use escapes::{ESC, SYN};
-use refusal::{BUS_ERROR, CHECK_WRONG, RUN_ENDED, Refusal, SOURCE_WRONG, SYN_EARLY};
+use refusal::{BUS_ERROR, CHECK_WRONG, RUN_ENDED, Refusal, SOURCE_WRONG, SYN_EARLY, refused};
 use telegram::{Extent, extent_at};
 
 // The two acknowledge bytes.
@@ -25,86 +25,48 @@ const ACK: u8 = 0x00;
 
 const NACK: u8 = 0xFF;
 
-// An acknowledge byte: 00, FF, or why it is neither.
+// An acknowledge byte: 00 or FF.
 #[derive(Clone, Copy)]
 enum Acknowledge {
     Positive,
     Negative,
-    Invalid(Refusal),
 }
 
-// How an attempt ended.
+// An attempt that was taken or NACKed, and how many bytes it has.
 #[derive(Clone, Copy)]
-pub enum Standing {
-    Taken,
-    Nacked,
-    Failed,
+pub struct Ended {
+    pub len: usize,
+    pub taken: bool,
 }
 
-// An attempt: how many bytes it has, the position behind the byte that decides it, and why it failed,
-// if it did. Behind a taken attempt the exchange goes on; a NACK's FF is the byte before. As in
-// `Extent` the refusal stands beside the enum, so that it is not put together in memory.
+// An attempt: the position behind the byte that decides it, and how it ended, or why it failed. Behind
+// a taken attempt the exchange goes on; a NACK's FF is the byte before.
 #[derive(Clone, Copy)]
 pub struct Attempt {
-    pub len: usize,
     pub next: usize,
-    pub standing: Standing,
-    pub why: Refusal,
-}
-
-// No acknowledge byte, for this reason.
-fn invalid_for(number: u8, place: usize) -> Acknowledge
-    ensures { result ≡ Acknowledge.Invalid (at_place number place) }
-{
-    Acknowledge::Invalid(Refusal { number, place })
+    pub ended: Result<Ended, Refusal>,
 }
 
 // The acknowledge byte at a position: one raw byte, with no escape rule. 00 goes on, only
 // FF is a NACK, SYN ends the wait, and any other byte is a bus error.
-fn acknowledge_at(run: &[u8], at: usize) -> Acknowledge
+#[tactic(auto, unfolding(crate::specs::Attempt::acknowledge_at))]
+fn acknowledge_at(run: &[u8], at: usize) -> Result<Acknowledge, Refusal>
     ensures { acknowledge_of result at ≡ acknowledge_at run.now at }
 {
     if run.len() <= at {
-        return invalid_for(RUN_ENDED, run.len());
+        return refused(RUN_ENDED, run.len());
     }
     let byte = run[at];
     if byte == ACK {
-        return Acknowledge::Positive;
+        return Ok(Acknowledge::Positive);
     }
     if byte == NACK {
-        return Acknowledge::Negative;
+        return Ok(Acknowledge::Negative);
     }
     if byte == SYN {
-        return invalid_for(SYN_EARLY, at);
+        return refused(SYN_EARLY, at);
     }
-    invalid_for(BUS_ERROR, at)
-}
-
-fn attempt_failed(next: usize, why: Refusal) -> Attempt
-    ensures { result ≡ record { len = 0; next = next; standing = Failed; why = why } }
-{
-    Attempt {
-        len: 0,
-        next,
-        standing: Standing::Failed,
-        why,
-    }
-}
-
-// An attempt that was acknowledged, or NACKed.
-fn attempt_ended(len: usize, next: usize, standing: Standing) -> Attempt
-    ensures { result ≡ record { len = len; next = next; standing = standing; why = at_place 0 0 } }
-{
-    let why = Refusal {
-        number: 0,
-        place: 0,
-    };
-    Attempt {
-        len,
-        next,
-        standing,
-        why,
-    }
+    refused(BUS_ERROR, at)
 }
 
 // The position behind the byte at which a telegram that can't be read is known to be one: of a field
@@ -124,38 +86,33 @@ fn known_behind(run: &[u8], number: u8, place: usize) -> usize
 
 // An acknowledged attempt, or a broadcast: its check byte is judged now, by the raw bytes before it,
 // in which escapes are expanded already.
-fn settle(run: &[u8], tables: &[u8; 512], start: usize, t: Extent, next: usize) -> Attempt
+fn settle(run: &[u8], tables: &[u8; 512], start: usize, t: Extent) -> Result<Ended, Refusal>
     requires { ReadFrom run.now start t }
-    ensures start_value { attempt_of result run.now start ≡ settled_by (right_by tables.now run.now start) (acknowledged (logicals_at run.now t.len start) t.last next) }
-    ensures next_value { result.next ≡ next }
-    ensures ready { (command : Bool) → Ready command run.now start t.len → Ready command run.now start result.len }
+    ensures start_value { (next : ℕ) → ended_as result next run.now start ≡ settled_by (right_by tables.now run.now start) (acknowledged (logicals_at run.now t.len start) t.last next) }
+    ensures length_value { (ended : EndedStruct) → result ≡ Ok ended → ended.len ≡ t.len }
 {
-    let last = t.last;
-    if wire_check(tables, &run[start..last]) == t.value {
-        return attempt_ended(t.len, next, Standing::Taken);
+    if wire_check(tables, &run[start..t.last]) == t.value {
+        return Ok(Ended {
+            len: t.len,
+            taken: true,
+        });
     }
-    attempt_failed(
-        next,
-        Refusal {
-            number: CHECK_WRONG,
-            place: last,
-        },
-    )
+    refused(CHECK_WRONG, t.last)
 }
 
 // An attempt whose acknowledge byte is due next, which decides it.
-fn answered(run: &[u8], tables: &[u8; 512], start: usize, t: Extent) -> Attempt
+fn answered(run: &[u8], tables: &[u8; 512], start: usize, t: Extent) -> Result<Ended, Refusal>
     requires { ReadFrom run.now start t }
-    ensures start_value { attempt_of result run.now start ≡ settled_by (right_by tables.now run.now start) (on_acknowledge (logicals_at run.now t.len start) t.last (acknowledge_at run.now t.next)) }
-    ensures next_value { result.next ≡ t.next + 1 }
-    ensures ready { (command : Bool) → Ready command run.now start t.len → Ready command run.now start result.len }
+    ensures start_value { ended_as result (t.next + 1) run.now start ≡ settled_by (right_by tables.now run.now start) (on_acknowledge (logicals_at run.now t.len start) t.last (acknowledge_at run.now t.next)) }
+    ensures length_value { (ended : EndedStruct) → result ≡ Ok ended → ended.len ≡ t.len }
 {
-    let byte = acknowledge_at(run, t.next);
-    let next = t.next + 1;
+    let byte = acknowledge_at(run, t.next)?;
     match byte {
-        Acknowledge::Positive => settle(run, tables, start, t, next),
-        Acknowledge::Negative => attempt_ended(t.len, next, Standing::Nacked),
-        Acknowledge::Invalid(why) => attempt_failed(next, why),
+        Acknowledge::Positive => settle(run, tables, start, t),
+        Acknowledge::Negative => Ok(Ended {
+            len: t.len,
+            taken: false,
+        }),
     }
 }
 
@@ -188,20 +145,30 @@ fn is_unanswered(run: &[u8], command: bool, at: usize) -> bool
 //
 // The run is handed on as a part that is all of it: handed on as it came it would be copied whole
 // where its two halves were stored just before, and the copy would wait for them.
+#[inline]
 pub fn attempt_at(run: &[u8], tables: &[u8; 512], command: bool, at: usize) -> Attempt
     ensures at_value { attempt_of result run.now at ≡ attempt_by tables.now command run.now at }
     ensures next_value { result.next ≡ looked_at command run.now at }
-    ensures ready { Ready command run.now at result.len }
+    ensures ready { (ended : EndedStruct) → result.ended ≡ Ok ended → Ready command run.now at ended.len }
 {
     let n = run.len();
-    let t = extent_at(&run[..n], command, at);
-    if !t.whole {
-        let number = t.why.number;
-        let place = t.why.place;
-        return attempt_failed(known_behind(run, number, place), Refusal { number, place });
+    let x = extent_at(&run[..n], command, at);
+    match x {
+        Ok(t) => {
+            if is_unanswered(run, command, at) {
+                return Attempt {
+                    next: t.next,
+                    ended: settle(run, tables, at, t),
+                };
+            }
+            Attempt {
+                next: t.next + 1,
+                ended: answered(run, tables, at, t),
+            }
+        }
+        Err(why) => Attempt {
+            next: known_behind(run, why.number, why.place),
+            ended: Err(why),
+        },
     }
-    if is_unanswered(run, command, at) {
-        return settle(run, tables, at, t, t.next);
-    }
-    answered(run, tables, at, t)
 }

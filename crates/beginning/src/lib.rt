@@ -7,6 +7,7 @@ ghost use Rattle.beginning.specs.Beginning.{piece_of, piece, command_start, pass
 
 use addresses::is_initiator;
 use escapes::{ESC, SYN};
+use lists::byte_at;
 
 // How many bytes the piece has that three bytes begin with; 0 where they begin with none.
 #[tactic(auto, unfolding(crate::specs::Beginning::piece_of))]
@@ -28,20 +29,8 @@ fn piece_of(first: u8, second: u8, third: u8) -> usize
     if second == SYN {
         return 2;
     }
-    if second == ESC {
-        if third == SYN {
-            return 3;
-        }
-    }
-    0
-}
-
-// The byte at a position, and 0 where there is none.
-fn byte_at(run: &[u8], at: usize) -> u8
-    ensures { result ≡ get_or run.now at 0 }
-{
-    if at < run.len() {
-        return run[at];
+    if second == ESC && third == SYN {
+        return 3;
     }
     0
 }
@@ -57,7 +46,8 @@ fn piece_at(run: &[u8], at: usize) -> usize
     piece_of(run[at], byte_at(run, at + 1), byte_at(run, at + 2))
 }
 
-// How many bytes of a run stand before the command.
+// How many bytes of a run stand before the command. The loop goes from piece to piece, each as long as
+// `piece_at` says, so it is no count of bytes.
 pub fn command_start(run: &[u8]) -> usize
     ensures { result ≡ command_start run.now }
 {
@@ -91,10 +81,7 @@ fn piece_behind(hand: &[u8], run: &[u8]) -> usize
         byte_behind(hand, run, 1),
         byte_behind(hand, run, 2),
     );
-    if n <= hand.len() {
-        return 0;
-    }
-    n - hand.len()
+    n.saturating_sub(hand.len())
 }
 
 // How many bytes of a run stand before the command, where these bytes are in hand before it.

@@ -10,9 +10,8 @@ ghost use Rattle.addresses.specs.Address.{kind_number};
 ghost use Rattle.boundary.specs.ForC.{written_for_c, logical_for_c, judged_for_c};
 
 use addresses::ExchangeKind;
-use escapes::Logical;
-use exchange::judge::Judged;
-use refusal::{Refusal, Written};
+use exchange::judge::Accepted;
+use refusal::Refusal;
 
 // The numbers of the kinds.
 const BROADCAST: u8 = 1;
@@ -74,17 +73,6 @@ pub struct MoorPart {
     pub length: usize,
 }
 
-// So many bytes were written.
-fn wrote(length: usize) -> MoorWritten
-    ensures { result ≡ record { number = 0; place = 0; length = length } }
-{
-    MoorWritten {
-        number: 0,
-        place: 0,
-        length,
-    }
-}
-
 // Nothing was written, for this reason.
 pub fn refused_for_c(why: Refusal) -> MoorWritten
     ensures { result ≡ record { number = why.number; place = why.place; length = 0 } }
@@ -96,26 +84,30 @@ pub fn refused_for_c(why: Refusal) -> MoorWritten
     }
 }
 
-pub fn written_for_c(x: Written) -> MoorWritten
+pub fn written_for_c(x: Result<usize, Refusal>) -> MoorWritten
     ensures { result ≡ written_for_c x }
 {
     match x {
-        Written::Length(length) => wrote(length),
-        Written::Refused(why) => refused_for_c(why),
+        Ok(length) => MoorWritten {
+            number: 0,
+            place: 0,
+            length,
+        },
+        Err(why) => refused_for_c(why),
     }
 }
 
-pub fn logical_for_c(x: Logical) -> MoorLogical
+pub fn logical_for_c(x: Result<(u8, usize), Refusal>) -> MoorLogical
     ensures { result ≡ logical_for_c x }
 {
     match x {
-        Logical::Byte(byte, next) => MoorLogical {
+        Ok((byte, next)) => MoorLogical {
             number: 0,
             byte,
             place: 0,
             next,
         },
-        Logical::Refused(why) => MoorLogical {
+        Err(why) => MoorLogical {
             number: why.number,
             byte: 0,
             place: why.place,
@@ -134,19 +126,19 @@ pub fn kind_number(x: ExchangeKind) -> u8
     }
 }
 
-pub fn judged_for_c(x: Judged) -> MoorJudged
+pub fn judged_for_c(x: Result<Accepted, Refusal>) -> MoorJudged
     ensures { result ≡ judged_for_c x }
 {
     match x {
-        Judged::Accepted(kind, command_attempts, reply_attempts, read) => MoorJudged {
+        Ok(accepted) => MoorJudged {
             number: 0,
-            kind: kind_number(kind),
-            command_attempts,
-            reply_attempts,
+            kind: kind_number(accepted.kind),
+            command_attempts: accepted.command_attempts,
+            reply_attempts: accepted.reply_attempts,
             place: 0,
-            read,
+            read: accepted.read,
         },
-        Judged::Refused(why) => MoorJudged {
+        Err(why) => MoorJudged {
             number: why.number,
             kind: 0,
             command_attempts: 0,

@@ -1,20 +1,19 @@
 // The arguments behind `capture`.
 use desk::part::start_of;
-use desk::word;
 use std::env::{Env, FillError};
 
 // Room for an argument. What is longer names no file.
 pub(crate) const ARGUMENT: usize = 4096;
 
 // Which exchanges have a line, and whether help is asked; the places among the arguments of the file
-// and of one that is not taken, 0 where there is none.
+// and of the first one that is not taken.
 #[derive(Clone, Copy)]
 pub(crate) struct Asked {
     pub(crate) accepted: bool,
     pub(crate) refused: bool,
     pub(crate) help: bool,
-    pub(crate) file: usize,
-    pub(crate) wrong: usize,
+    pub(crate) file: Option<usize>,
+    pub(crate) wrong: Option<usize>,
 }
 
 // The first argument is the program's name, and the second `capture`.
@@ -25,8 +24,8 @@ pub(crate) fn read(rt: &impl Env) -> Asked {
         accepted: true,
         refused: true,
         help: false,
-        file: 0,
-        wrong: 0,
+        file: None,
+        wrong: None,
     };
     for i in FIRST..usize::MAX {
         let mut store = [0u8; ARGUMENT];
@@ -52,43 +51,19 @@ pub(crate) fn argument_at<'a>(
 }
 
 impl Asked {
-    // The argument at this place too.
+    // The argument at this place too. One file is named; what else begins with `-` is no option.
     fn with(mut self, i: usize, argument: &[u8]) -> Asked {
-        let option = word::place(b"--refused --summary --help -h", argument);
-        match option {
-            0 => {
-                self.accepted = false;
-                self
-            }
-            1 => {
+        match argument {
+            b"--refused" => self.accepted = false,
+            b"--summary" => {
                 self.accepted = false;
                 self.refused = false;
-                self
             }
-            2 | 3 => {
-                self.help = true;
-                self
+            b"--help" | b"-h" => self.help = true,
+            _ if self.file.is_some() || begins_with_dash(argument) => {
+                self.wrong = self.wrong.or(Some(i));
             }
-            _ => self.with_file(i, argument),
-        }
-    }
-
-    // One file is named. What else begins with `-` is no option.
-    fn with_file(mut self, i: usize, name: &[u8]) -> Asked {
-        if self.file > 0 {
-            return self.with_wrong(i);
-        }
-        if begins_with_dash(name) {
-            return self.with_wrong(i);
-        }
-        self.file = i;
-        self
-    }
-
-    // The first that is not taken counts.
-    fn with_wrong(mut self, i: usize) -> Asked {
-        if self.wrong == 0 {
-            self.wrong = i;
+            _ => self.file = Some(i),
         }
         self
     }
@@ -96,8 +71,5 @@ impl Asked {
 
 // `-` alone is standard input.
 fn begins_with_dash(name: &[u8]) -> bool {
-    if name.len() < 2 {
-        return false;
-    }
-    name[0] == b'-'
+    matches!(name, [b'-', _, ..])
 }

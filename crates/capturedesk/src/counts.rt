@@ -1,5 +1,6 @@
 // What is counted over a capture.
 use addresses::ExchangeKind;
+use exchange::judge::Accepted;
 
 // Numbers of refusals are below this.
 pub(crate) const NUMBERS: usize = 32;
@@ -29,56 +30,34 @@ pub(crate) fn none() -> Counts {
     }
 }
 
-// The sum, or the largest number there is.
-pub(crate) fn plus(a: u64, b: u64) -> u64 {
-    if u64::MAX - a < b {
-        return u64::MAX;
-    }
-    a + b
-}
-
-// What is left, or nothing.
-pub(crate) fn less(a: u64, b: u64) -> u64 {
-    if a < b {
-        return 0;
-    }
-    a - b
-}
-
 impl Counts {
     // An exchange that was accepted.
-    pub(crate) fn with_accepted(mut self, kind: ExchangeKind, commands: u8, replies: u8) -> Counts {
-        self.commands_again = plus(self.commands_again, less(commands as u64, 1));
-        self.replies_again = plus(self.replies_again, less(replies as u64, 1));
-        match kind {
-            ExchangeKind::Broadcast => {
-                self.broadcast = plus(self.broadcast, 1);
-                self
-            }
-            ExchangeKind::InitiatorInitiator => {
-                self.initiator = plus(self.initiator, 1);
-                self
-            }
-            ExchangeKind::InitiatorTarget => {
-                self.target = plus(self.target, 1);
-                self
-            }
+    pub(crate) fn with_accepted(mut self, exchange: Accepted) -> Counts {
+        let commands_again = exchange.command_attempts.saturating_sub(1) as u64;
+        let replies_again = exchange.reply_attempts.saturating_sub(1) as u64;
+        self.commands_again = self.commands_again.saturating_add(commands_again);
+        self.replies_again = self.replies_again.saturating_add(replies_again);
+        match exchange.kind {
+            ExchangeKind::Broadcast => self.broadcast = self.broadcast.saturating_add(1),
+            ExchangeKind::InitiatorInitiator => self.initiator = self.initiator.saturating_add(1),
+            ExchangeKind::InitiatorTarget => self.target = self.target.saturating_add(1),
         }
+        self
     }
 
     // .. or refused.
     pub(crate) fn with_refused(mut self, number: u8) -> Counts {
-        self.refusals = plus(self.refusals, 1);
+        self.refusals = self.refusals.saturating_add(1);
         let i = number as usize;
         if i < NUMBERS {
-            let mut refused = self.refused;
-            refused[i] = plus(refused[i], 1);
-            self.refused = refused;
+            self.refused[i] = self.refused[i].saturating_add(1);
         }
         self
     }
 
     pub(crate) fn accepted(self) -> u64 {
-        plus(plus(self.broadcast, self.initiator), self.target)
+        self.broadcast
+            .saturating_add(self.initiator)
+            .saturating_add(self.target)
     }
 }

@@ -1,6 +1,5 @@
 // A capture, read to its end.
 use crate::arguments::Asked;
-use crate::counts::plus;
 use crate::page::{FULL, PAGE};
 use crate::walk::{STRETCH, Walk};
 use crate::{summary, walk};
@@ -102,18 +101,12 @@ fn written_out(rt: &HostRuntime, w: Walk, page: &[u8; PAGE]) -> Walk {
 
 // Whether a person sees standard error, and no lines of the report between.
 fn is_watched(rt: &HostRuntime, asked: Asked) -> bool {
-    if !rt.stderr().is_terminal() {
-        return false;
-    }
-    if asked.refused {
-        return !rt.stdout().is_terminal();
-    }
-    true
+    rt.stderr().is_terminal() && !(asked.refused && rt.stdout().is_terminal())
 }
 
 // How far it is, where it takes long.
 fn progress(rt: &HostRuntime, at: u64, n: u64, asked: Asked) {
-    let far = plus(at, n);
+    let far = at.saturating_add(n);
     if at / OFTEN == far / OFTEN {
         return;
     }

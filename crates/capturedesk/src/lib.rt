@@ -15,7 +15,6 @@ mod walk;
 use crate::arguments::{ARGUMENT, Asked, argument_at};
 use desk::aside::{tell, tell_failure};
 use desk::part::start_of;
-use desk::word;
 use std::env::{Env, FillError};
 use std::fs::File;
 use std::io;
@@ -32,8 +31,8 @@ const NO_TEXT: i32 = 84;
 // Obeys the arguments behind `capture`: a file, and which of its exchanges are said.
 pub fn from_arguments(rt: &HostRuntime) {
     let asked = arguments::read(rt);
-    if asked.wrong > 0 {
-        not_taken(rt, asked.wrong);
+    if let Some(i) = asked.wrong {
+        not_taken(rt, i);
         return;
     }
     if asked.help {
@@ -42,12 +41,12 @@ pub fn from_arguments(rt: &HostRuntime) {
         }
         return;
     }
-    if asked.file == 0 {
+    let Some(file) = asked.file else {
         let _ = usage(&rt.stderr());
         return;
-    }
+    };
     let mut path = [0u8; ARGUMENT];
-    match rt.arg(asked.file, &mut path) {
+    match rt.arg(file, &mut path) {
         Ok(n) => named(rt, start_of(&path, n), asked),
         Err(FillError::TooLong) => nameless(rt, TOO_LONG),
         Err(FillError::NotPresent) => nameless(rt, NOT_THERE),
@@ -85,7 +84,7 @@ fn nameless(rt: &HostRuntime, why: i32) {
 
 // `-` is standard input.
 fn named(rt: &HostRuntime, path: &[u8], asked: Asked) {
-    if word::place(b"-", path) == 0 {
+    if matches!(path, b"-") {
         input::report(rt, &mut rt.stdin(), b"standard input", asked);
         return;
     }

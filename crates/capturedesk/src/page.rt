@@ -1,6 +1,5 @@
 // What waits to be written out.
 use desk::part::start_of;
-use lists::smaller;
 use spelling::{LINE, put_behind};
 
 // How many bytes can wait.
@@ -16,5 +15,5 @@ pub(crate) fn add(waiting: usize, page: &mut [u8; PAGE], line: &[u8; LINE], n: u
         return waiting;
     }
     put_behind(page, waiting, start_of(line, n));
-    waiting + smaller(smaller(n, LINE), PAGE - waiting)
+    waiting + n.min(LINE).min(PAGE - waiting)
 }

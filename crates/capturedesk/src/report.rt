@@ -1,21 +1,20 @@
 // The line of one exchange.
-use crate::counts::plus;
 use addresses::ExchangeKind;
 use desk::expected::check_of;
 use desk::part::start_of;
+use exchange::judge::Accepted;
 use lists::byte_at;
 use refusal::{CHECK_WRONG, Refusal};
 use spelling::LINE;
 use telegram::COMMAND_ROOM;
 
+// The largest LEN.
+const LONGEST: u8 = 16;
+
 // How long the command at the start of its buffer is: LEN stands behind four bytes, and behind it the
 // data and the check byte.
 fn command_length(command: &[u8]) -> usize {
-    let len = byte_at(command, 4);
-    if 16 < len {
-        return COMMAND_ROOM;
-    }
-    6 + len as usize
+    6 + byte_at(command, 4).min(LONGEST) as usize
 }
 
 fn kind_name(at: usize, line: &mut [u8; LINE], kind: ExchangeKind) -> usize {
@@ -29,19 +28,13 @@ fn kind_name(at: usize, line: &mut [u8; LINE], kind: ExchangeKind) -> usize {
 }
 
 // The kind and the attempts of an exchange, behind where it starts.
-pub(crate) fn accepted(
-    line: &mut [u8; LINE],
-    start: u64,
-    kind: ExchangeKind,
-    commands: u8,
-    replies: u8,
-) -> usize {
+pub(crate) fn accepted(line: &mut [u8; LINE], start: u64, exchange: Accepted) -> usize {
     let a = spelling::decimal(0, line, start);
-    let b = kind_name(a, line, kind);
+    let b = kind_name(a, line, exchange.kind);
     let c = spelling::text(b, line, b", attempts ");
-    let d = spelling::decimal(c, line, commands as u64);
+    let d = spelling::decimal(c, line, exchange.command_attempts as u64);
     let e = spelling::text(d, line, b" and ");
-    spelling::decimal(e, line, replies as u64)
+    spelling::decimal(e, line, exchange.reply_attempts as u64)
 }
 
 // The command, and the data of the reply.
@@ -67,7 +60,7 @@ pub(crate) fn refused(line: &mut [u8; LINE], start: u64, why: Refusal, stretch: 
     let b = spelling::text(a, line, b": refused ");
     let c = spelling::decimal(b, line, number as u64);
     let d = spelling::text(c, line, b" at ");
-    let e = spelling::decimal(d, line, plus(start, place as u64));
+    let e = spelling::decimal(d, line, start.saturating_add(place as u64));
     let f = named(e, line, number);
     let g = check(f, line, number, place, stretch);
     spelling::text(g, line, b")\n")
@@ -83,10 +76,9 @@ fn check(at: usize, line: &mut [u8; LINE], number: u8, place: usize, stretch: &[
     if number != CHECK_WRONG {
         return at;
     }
-    let checked = check_of(stretch, place);
-    if !checked.known {
+    let Some(checked) = check_of(stretch, place) else {
         return at;
-    }
+    };
     let a = spelling::text(at, line, b": expected ");
     let b = spelling::hex(a, line, checked.expected);
     let c = spelling::text(b, line, b", found ");

@@ -1,5 +1,5 @@
 // The summary of a capture.
-use crate::counts::{Counts, NUMBERS, plus};
+use crate::counts::{Counts, NUMBERS};
 use crate::page;
 use crate::page::PAGE;
 use spelling::LINE;
@@ -14,7 +14,13 @@ fn counted(at: usize, line: &mut [u8; LINE], before: &[u8], number: u64, behind:
 // How many exchanges there are, and how many of them of each kind were accepted.
 fn accepted(line: &mut [u8; LINE], bytes: u64, counts: Counts) -> usize {
     let all = counts.accepted();
-    let a = counted(0, line, b"", plus(all, counts.refusals), b" exchanges in ");
+    let a = counted(
+        0,
+        line,
+        b"",
+        all.saturating_add(counts.refusals),
+        b" exchanges in ",
+    );
     let b = counted(a, line, b"", bytes, b" bytes\n");
     let c = counted(b, line, b"  accepted ", all, b": broadcast ");
     let d = counted(c, line, b"", counts.broadcast, b", initiator/initiator ");
@@ -24,7 +30,7 @@ fn accepted(line: &mut [u8; LINE], bytes: u64, counts: Counts) -> usize {
 
 // How many attempts came again, and how many exchanges were refused.
 fn again(line: &mut [u8; LINE], counts: Counts) -> usize {
-    let all = plus(counts.commands_again, counts.replies_again);
+    let all = counts.commands_again.saturating_add(counts.replies_again);
     let a = counted(0, line, b"  retries in accepted ", all, b": of commands ");
     let b = counted(a, line, b"", counts.commands_again, b", of replies ");
     let c = counted(b, line, b"", counts.replies_again, b"\n");
@@ -43,10 +49,9 @@ fn given(waiting: usize, page: &mut [u8; PAGE], number: u8, times: u64) -> usize
 // .. of each number that was given.
 fn numbers(waiting: usize, page: &mut [u8; PAGE], refused: [u64; NUMBERS]) -> usize {
     let mut k = waiting;
-    for i in 0..NUMBERS {
-        let times = refused[i];
-        if times > 0 {
-            k = given(k, page, (i % 256) as u8, times);
+    for (i, times) in refused.iter().enumerate() {
+        if *times > 0 {
+            k = given(k, page, (i % 256) as u8, *times);
         }
     }
     k

@@ -5,15 +5,14 @@
 // exactly where it is not answered: capturewalk/specs/Runs.antt. What stands behind the byte that
 // decided is not used, since a state that has answered uses none.
 use crate::arguments::Asked;
-use crate::counts::{Counts, less, plus};
+use crate::counts::Counts;
 use crate::page::PAGE;
 use crate::{counts, page, report};
-use addresses::ExchangeKind;
 use captures::through_syn;
 use closing::close;
 use desk::part::start_of;
 use escapes::SYN;
-use exchange::judge::Judged;
+use exchange::judge::Accepted;
 use feeding::feed;
 use listening::{Listening, has_answered};
 use refusal::Refusal;
@@ -54,11 +53,7 @@ pub(crate) fn begin() -> Walk {
 
 // Whether a SYN ends these bytes.
 fn ends_in_syn(bytes: &[u8]) -> bool {
-    let n = bytes.len();
-    if n == 0 {
-        return false;
-    }
-    bytes[n - 1] == SYN
+    bytes.last() == Some(&SYN)
 }
 
 // Keeps bytes of a stretch behind so many, as far as there is room.
@@ -81,8 +76,8 @@ impl Walk {
 
     // The next stretch starts here: of the one in hand so many bytes belong to an exchange.
     fn afresh(&mut self, used: u64) {
-        let left = less(less(self.at, self.start), used);
-        self.skipped = plus(self.skipped, left);
+        let left = self.in_hand().saturating_sub(used);
+        self.skipped = self.skipped.saturating_add(left);
         self.start = self.at;
         self.state = listening::listen();
         self.used = 0;
@@ -90,23 +85,28 @@ impl Walk {
 
     // A SYN alone: idle time.
     fn idle(&mut self) {
-        let at = plus(self.at, 1);
+        let at = self.at.saturating_add(1);
         self.at = at;
         self.start = at;
-        self.skipped = plus(self.skipped, 1);
+        self.skipped = self.skipped.saturating_add(1);
     }
 
     // So many bytes were fed, and so many of them used.
     fn fed(&mut self, n: usize, state: Listening, used: usize) {
-        self.at = plus(self.at, n as u64);
+        self.at = self.at.saturating_add(n as u64);
         self.state = state;
-        self.used = plus(self.used, used as u64);
+        self.used = self.used.saturating_add(used as u64);
     }
 
     // An exchange was counted, and its line waits.
     fn told(&mut self, counts: Counts, waiting: usize) {
         self.counts = counts;
         self.waiting = waiting;
+    }
+
+    // How many bytes of the stretch in hand are behind.
+    fn in_hand(&self) -> u64 {
+        self.at.saturating_sub(self.start)
     }
 
     // Whether the stretch in hand has no byte yet.
@@ -145,7 +145,7 @@ impl Walk {
 
     // The stretch in hand is longer by these bytes.
     fn longer(&mut self, bytes: &[u8], stretch: &mut [u8; STRETCH]) {
-        keep(stretch, less(self.at, self.start), bytes);
+        keep(stretch, self.in_hand(), bytes);
         let fed = feed(self.state, bytes);
         let state = fed.state;
         self.fed(bytes.len(), state, fed.used);
@@ -171,28 +171,17 @@ impl Walk {
         let mut first = [0u8; REPLY_ROOM];
         let mut second = [0u8; REPLY_ROOM];
         let closed = close(self.state, &mut command, &mut first, &mut second);
-        let answer = closed.answer;
-        match answer {
-            Judged::Refused(why) => self.refused(why, asked.refused, stretch, page),
-            Judged::Accepted(kind, commands, replies, _) => {
-                let counts = self.counts;
-                let more = counts.with_accepted(kind, commands, replies);
+        match closed.answer {
+            Err(why) => self.refused(why, asked.refused, stretch, page),
+            Ok(exchange) => {
+                let counts = self.counts.with_accepted(exchange);
                 if !asked.accepted {
-                    self.told(more, self.waiting);
+                    self.told(counts, self.waiting);
                     return;
                 }
-                let data = replies::reply_data(&first, &second, replies);
-                let waiting = accepted(
-                    self.waiting,
-                    self.start,
-                    kind,
-                    commands,
-                    replies,
-                    &command,
-                    data,
-                    page,
-                );
-                self.told(more, waiting);
+                let data = replies::reply_data(&first, &second, exchange.reply_attempts);
+                let waiting = accepted(self.waiting, self.start, exchange, &command, data, page);
+                self.told(counts, waiting);
             }
         }
     }
@@ -204,40 +193,34 @@ impl Walk {
         stretch: &[u8; STRETCH],
         page: &mut [u8; PAGE],
     ) {
-        let counts = self.counts;
-        let more = counts.with_refused(why.number);
+        let counts = self.counts.with_refused(why.number);
         if !said {
-            self.told(more, self.waiting);
+            self.told(counts, self.waiting);
             return;
         }
         let mut line = [0u8; LINE];
-        let heard = heard_of(stretch, less(self.at, self.start));
+        let heard = heard_of(stretch, self.in_hand());
         let n = report::refused(&mut line, self.start, why, heard);
-        self.told(more, page::add(self.waiting, page, &line, n));
+        self.told(counts, page::add(self.waiting, page, &line, n));
     }
 }
 
 // The bytes that are kept of a stretch of so many.
 fn heard_of(stretch: &[u8; STRETCH], n: u64) -> &[u8] {
-    if n < STRETCH as u64 {
-        return start_of(stretch, n as usize);
-    }
-    stretch
+    start_of(stretch, n.min(STRETCH as u64) as usize)
 }
 
 // The line of an accepted exchange waits too.
 fn accepted(
     waiting: usize,
     start: u64,
-    kind: ExchangeKind,
-    commands: u8,
-    replies: u8,
+    exchange: Accepted,
     command: &[u8; COMMAND_ROOM],
     data: &[u8],
     page: &mut [u8; PAGE],
 ) -> usize {
     let mut line = [0u8; LINE];
-    let a = report::accepted(&mut line, start, kind, commands, replies);
+    let a = report::accepted(&mut line, start, exchange);
     let n = report::telegrams(a, &mut line, command, data);
     page::add(waiting, page, &line, n)
 }
@@ -251,6 +234,7 @@ pub(crate) fn over_run(
     page: &mut [u8; PAGE],
 ) {
     let mut i = 0;
+    // A step goes through the next SYN.
     while i < run.len() {
         let rest = &run[i..];
         let n = through_syn(rest);

@@ -10,7 +10,6 @@ ghost use Rattle.captures.specs.Capture.{through_syn, next_exchange};
 
 use beginning::command_start;
 use escapes::SYN;
-use lists::smaller;
 
 // A part of a capture: where it starts, and the position behind it.
 #[repr(C)]
@@ -24,14 +23,12 @@ pub struct Stretch {
 pub fn through_syn(run: &[u8]) -> usize
     ensures { result ≡ through_syn run.now }
 {
-    let mut at = 0;
-    while at < run.len() {
-        if run[at] == SYN {
+    for (at, byte) in run.iter().enumerate() {
+        if *byte == SYN {
             return at + 1;
         }
-        at += 1;
     }
-    at
+    run.len()
 }
 
 // The stretch of the next exchange of a capture, from a position on: behind idle time, and through the
@@ -40,7 +37,7 @@ pub fn through_syn(run: &[u8]) -> usize
 pub fn next_exchange(capture: &[u8], at: usize) -> Stretch
     ensures { result ≡ next_exchange capture.now at }
 {
-    let from = smaller(at, capture.len());
+    let from = at.min(capture.len());
     let start = from + command_start(&capture[from..]);
     let end = start + through_syn(&capture[start..]);
     Stretch { start, end }

@@ -1,5 +1,7 @@
 -- A capture that is heard run by run: the first SYN over a cut, and idle time by a fresh state.
 -- Assumes nothing.
+use Rattle.std.specs.Prelude.{Result, Err}
+use Rattle.refusal.specs.declared.Refusal.{Refusal}
 use mathlib.Core.Path.{◌≡◌, refl, sym, ap, ◌∙◌, subst}
 use mathlib.Core.Bool.{Bool, true, false, not, ◌||◌}
 use mathlib.Core.List.{List, [], ◌∷◌, ◌++◌, append-nil}
@@ -14,8 +16,6 @@ use Rattle.lists.specs.Choice.{pick}
 use Rattle.lists.specs.Tests.{any}
 use Rattle.lists.proofs.Cases.{by_test, same_or_not}
 use Rattle.escapes.specs.Escape.{syn}
-use Rattle.escapes.specs.declared.Logical.{Logical}
-use Rattle.escapes.specs.declared.Logical.TheVariants.{Refused}
 use Rattle.escapes.specs.Logical.{run_over, logical_at}
 use Rattle.telegram.specs.Telegram.{check_right, field_at, Telegram, unread, on_byte, collected, on_head, telegram_at}
 use Rattle.beginning.specs.Beginning.{piece, is_piece, command_start}
@@ -49,14 +49,14 @@ cuts_at (b ∷ bs) rest = by_first (eqb b syn) (has_syn bs) (through_syn (bs ++ 
 -- ---- behind idle time nothing is known
 
 module _ (run : List ℕ) where
-  none_there : logical_at run (length run) ≡ Refused (run_over run)
+  none_there : logical_at run (length run) ≡ Err (run_over run)
   unfolding logical_at
   none_there = simp (le-ltb (length run) (length run) (omega arith))
 
   no_telegram : telegram_at true run (length run) ≡ unread (run_over run)
   unfolding telegram_at collected
   no_telegram =
-      ap (λ (l : Logical). on_head true run (on_byte (field_at true 0) (length run) l (λ b next. collected true run 4 (b ∷ []) (length run) next))) none_there
+      ap (λ (l : Result (ℕ × ℕ) Refusal). on_head true run (on_byte (field_at true 0) (length run) l (λ b next. collected true run 4 (b ∷ []) (length run) next))) none_there
 
   no_attempt : attempt_at true run (length run) ≡ failed (run_over run)
   unfolding attempt_at ending_at

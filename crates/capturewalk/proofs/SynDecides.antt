@@ -1,6 +1,8 @@
 -- A raw SYN decides an exchange whose command starts at it or before it: number 3 is not the answer. A SYN is used as no logical byte
 -- and as no acknowledge byte, so nothing goes on behind it.
 -- Assumes nothing.
+use Rattle.std.specs.Prelude.{Result, Ok, Err}
+use Rattle.refusal.specs.declared.Refusal.{Refusal}
 use mathlib.Core.Path.{◌≡◌, refl, ap, ◌∙◌, subst}
 use mathlib.Core.Bool.{Bool, true, false}
 use mathlib.Core.List.{List, [], ◌∷◌, ◌++◌}
@@ -13,8 +15,6 @@ use borrow.Author.Tests.{ltb-false, eqb-true, eqb-false}
 use Rattle.lists.proofs.Cases.{pick_cases, same_or_not}
 use Rattle.refusal.specs.Number.{run_ended}
 use Rattle.escapes.specs.Escape.{esc, syn}
-use Rattle.escapes.specs.declared.Logical.{Logical}
-use Rattle.escapes.specs.declared.Logical.TheVariants.{Byte, Refused}
 use Rattle.escapes.specs.Logical.{escape_at, logical_at}
 use Rattle.escapes.proofs.LongerRun.{OtherRefusal}
 use Rattle.addresses.specs.declared.ExchangeKind.{ExchangeKind}
@@ -49,9 +49,9 @@ module _ (run : List ℕ) (s : ℕ) (is : get_or run s 0 ≡ syn) where
 
   -- ---- what is said of each kind of answer: it goes on at that SYN or before it, or is no refusal with number 3
 
-  abbrev ByteDecided : Logical → Type 0
-  ByteDecided (Byte b next) = next ≤ s
-  ByteDecided (Refused why) = OtherRefusal why
+  abbrev ByteDecided : Result (ℕ × ℕ) Refusal → Type 0
+  ByteDecided (Ok (b, next)) = next ≤ s
+  ByteDecided (Err why) = OtherRefusal why
 
   abbrev TelegramDecided : Telegram → Type 0
   TelegramDecided (read telegram last next) = next ≤ s
@@ -108,10 +108,10 @@ module _ (run : List ℕ) (s : ℕ) (is : get_or run s 0 ≡ syn) where
   -- ---- a telegram
 
   by_byte : (field : Field) (at : ℕ) (rest : ℕ → ℕ → Telegram) → ((b next : ℕ) → next ≤ s → TelegramDecided (rest b next))
-      → (l : Logical) → ByteDecided l → TelegramDecided (on_byte field at l rest)
-  by_byte field at rest each (Byte b next) h =
+      → (l : Result (ℕ × ℕ) Refusal) → ByteDecided l → TelegramDecided (on_byte field at l rest)
+  by_byte field at rest each (Ok (b, next)) h =
       pick_cases TelegramDecided (eqb (fault_of field b) 0) _ _ (λ _. each b next h) (λ _. fault_other field b)
-  by_byte field at rest each (Refused why) h = h
+  by_byte field at rest each (Err why) h = h
 
   collected_decided : (command : Bool) (n : ℕ) (so_far : List ℕ) (last at : ℕ) → at ≤ s → TelegramDecided (collected command run n so_far last at)
   unfolding collected

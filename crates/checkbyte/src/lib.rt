@@ -72,28 +72,18 @@ fn entered(table: &[u8], running: usize, byte: u8) -> usize
 fn plain_at(logical: &[u8], i: usize) -> bool
     ensures { result ≡ true → PlainAt logical.now i }
 {
-    if logical.len() <= i {
-        return false;
-    }
-    let byte = logical[i];
-    if byte == ESC {
-        return false;
-    }
-    byte != SYN
+    i < logical.len() && logical[i] != ESC && logical[i] != SYN
 }
 
 // Whether two such bytes stand there.
 fn pair_at(logical: &[u8], i: usize) -> bool
     ensures { result ≡ true → PlainAt logical.now i × PlainAt logical.now (i + 1) }
 {
-    if plain_at(logical, i) {
-        return plain_at(logical, i + 1);
-    }
-    false
+    plain_at(logical, i) && plain_at(logical, i + 1)
 }
 
 // The check by the table, one byte a step; with `pairs` by both tables, two bytes a step where neither
-// is escaped.
+// is escaped. So a step is of one byte or of two, and the loop no count.
 fn check_by(table: &[u8], pairs: bool, logical: &[u8]) -> u8
     requires { EbusTable (take 256 table.now) × (pairs ≡ true → EbusTables table.now) }
     ensures { result ≡ ebus_check logical.now }
@@ -101,13 +91,11 @@ fn check_by(table: &[u8], pairs: bool, logical: &[u8]) -> u8
     let mut running = ABOVE;
     let mut i = 0;
     while i < logical.len() {
-        if pairs {
-            if pair_at(logical, i) {
-                let both = table[logical[i] as usize] ^ logical[i + 1];
-                running = (table[running] as usize) ^ (ABOVE + both as usize);
-                i += 2;
-                continue;
-            }
+        if pairs && pair_at(logical, i) {
+            let both = table[logical[i] as usize] ^ logical[i + 1];
+            running = (table[running] as usize) ^ (ABOVE + both as usize);
+            i += 2;
+            continue;
         }
         running = entered(table, running, logical[i]);
         i += 1;
@@ -123,15 +111,14 @@ pub fn wire_check(tables: &[u8; 512], raw: &[u8]) -> u8
 {
     let entries = &tables[..];
     let mut running: usize = 0x100;
-    let mut second = 1;
-    while second < raw.len() {
-        let both = entries[raw[second - 1] as usize] ^ raw[second];
+    let (pairs, last) = raw.as_chunks::<2>();
+    for pair in pairs {
+        let both = entries[pair[0] as usize] ^ pair[1];
         running = (entries[running] as usize) ^ (ABOVE + both as usize);
-        second += 2;
     }
-    let at = running - ABOVE;
-    if second == raw.len() {
-        return entries[at] ^ raw[second - 1];
+    let register = (running - ABOVE) as u8;
+    match last {
+        [byte] => entries[register as usize] ^ *byte,
+        _ => register,
     }
-    at as u8
 }

@@ -1,5 +1,7 @@
 -- Closing: the answer by what a state holds, and what the buffers then start with.
 -- Assumes nothing.
+use Rattle.std.specs.Prelude.{Result, Err}
+use Rattle.exchange.specs.declared.judge.Accepted.{Accepted}
 use mathlib.Core.Path.{◌≡◌, refl, sym, ap, ◌∙◌, subst}
 use mathlib.Core.Bool.{Bool, true, false, ◌&&◌}
 use mathlib.Core.List.{List}
@@ -19,8 +21,6 @@ use Rattle.refusal.specs.Number.{output_short, run_ended, at_place}
 use Rattle.refusal.specs.declared.Refusal.{Refusal}
 use Rattle.addresses.specs.Address.{kind_of}
 use Rattle.telegram.specs.Telegram.{command_room, reply_room, destination_of}
-use Rattle.exchange.specs.declared.judge.Judged.{Judged}
-use Rattle.exchange.specs.declared.judge.Judged.TheVariants.{Refused}
 use Rattle.exchange.specs.Exchange.{limit, Outcome, accepted, rejected, rooms}
 use Rattle.exchange.specs.View.{Judges}
 use Rattle.listening.specs.declared.Listening.{Listening}
@@ -39,11 +39,11 @@ rooms_had command first second h =
     )
 
 -- a refusal leaves them as they were
-pub judges_refused : (o : Outcome) (why : Refusal) (r : Judged) (command first second : List ℕ) → o ≡ rejected why → r ≡ Refused why → Judges id o r command command first first second second
+pub judges_refused : (o : Outcome) (why : Refusal) (r : Result Accepted Refusal) (command first second : List ℕ) → o ≡ rejected why → r ≡ Err why → Judges id o r command command first first second second
 judges_refused o why r command first second e is =
     subst (λ (x : Outcome). Judges id x r command command first first second second) (sym e) (record { result = is; command_buffer = refl; first_buffer = refl; second_buffer = refl })
 
-pub judges_same : {o o' : Outcome} {r : Judged} {command command' first first' second second' : List ℕ} → o ≡ o' → Judges id o' r command command' first first' second second'
+pub judges_same : {o o' : Outcome} {r : Result Accepted Refusal} {command command' first first' second second' : List ℕ} → o ≡ o' → Judges id o' r command command' first first' second second'
     → Judges id o r command command' first first' second second'
 judges_same {o} {o'} {r} {command} {command'} {first} {first'} {second} {second'} e j =
     subst (λ (x : Outcome). Judges id x r command command' first first' second second') (sym e) j

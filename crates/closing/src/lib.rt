@@ -3,7 +3,7 @@
 
 ghost use Rattle.std.specs.Prelude.{◌≡◌, true, length};
 ghost use mathlib.Mathlib.Logic.Function.Defs.{id};
-ghost use Rattle.refusal.specs.Number.{output_short, run_ended, at_place};
+ghost use Rattle.refusal.specs.Number.{run_ended};
 ghost use Rattle.addresses.specs.Address.{kind_of};
 ghost use Rattle.telegram.specs.Telegram.{destination_of};
 ghost use Rattle.exchange.specs.Exchange.{accepted, rooms};
@@ -11,42 +11,26 @@ ghost use Rattle.exchange.specs.View.{Judges};
 ghost use Rattle.listening.specs.Listening.{answers, kept_command, kept_first, kept_second, closing, closing_state};
 
 use addresses::kind;
-use exchange::judge::{Judged, have_room};
+use exchange::judge::{Accepted, have_room};
 use listening::{FIRST_PLACE, HAND_ROOM, Listening, NOTHING_DUE, SECOND_PLACE, heard};
 use lists::{put, smaller};
-use refusal::{OUTPUT_SHORT, RUN_ENDED, Refusal};
+use refusal::{OUTPUT_SHORT, RUN_ENDED, Refusal, refused};
 use telegram::{COMMAND_ROOM, REPLY_ROOM};
 
 // The answer, and the state afterwards.
 #[derive(Clone, Copy)]
 pub struct Closed {
-    pub answer: Judged,
+    pub answer: Result<Accepted, Refusal>,
     pub state: Listening,
 }
 
-// A refusal, as an answer.
-fn refused(number: u8, place: usize) -> Judged
-    ensures { result ≡ Judged.Refused (at_place number place) }
-{
-    Judged::Refused(Refusal { number, place })
-}
-
-// Number 1: a buffer is too short, and the state is kept.
-fn too_short(state: Listening) -> Closed
-    ensures { result ≡ record { answer = Judged.Refused (at_place output_short 0); state = state } }
-{
-    let why = Refusal {
-        number: OUTPUT_SHORT,
-        place: 0,
-    };
-    Closed {
-        answer: Judged::Refused(why),
-        state,
-    }
-}
-
 // An accepted exchange, into buffers that have room: what is kept is put at their starts.
-fn accept(state: Listening, command: &mut [u8], reply_1: &mut [u8], reply_2: &mut [u8]) -> Judged
+fn accept(
+    state: Listening,
+    command: &mut [u8],
+    reply_1: &mut [u8],
+    reply_2: &mut [u8],
+) -> Result<Accepted, Refusal>
     requires { rooms (length command.old) (length reply_1.old) (length reply_2.old) ≡ true }
     ensures { Judges id (accepted (kind_of (destination_of state.kept)) state.command_attempts state.reply_attempts state.start (kept_command state) (kept_first state) (kept_second state)) result command.old command.new reply_1.old reply_1.new reply_2.old reply_2.new }
 {
@@ -57,12 +41,12 @@ fn accept(state: Listening, command: &mut [u8], reply_1: &mut [u8], reply_2: &mu
     put(&kept[FIRST_PLACE..first], reply_1);
     let second = SECOND_PLACE + smaller(state.reply_2_length as usize, REPLY_ROOM);
     put(&kept[SECOND_PLACE..second], reply_2);
-    Judged::Accepted(
-        kind(kept[1]),
-        state.command_attempts,
-        state.reply_attempts,
-        state.start,
-    )
+    Ok(Accepted {
+        kind: kind(kept[1]),
+        command_attempts: state.command_attempts,
+        reply_attempts: state.reply_attempts,
+        read: state.start,
+    })
 }
 
 // The recording ends here, before the answer was known: number 3 is the answer.
@@ -86,7 +70,8 @@ pub fn close(state: Listening, command: &mut [u8], reply_1: &mut [u8], reply_2: 
     ensures state_value { result.state ≡ closing_state state (length command.old) (length reply_1.old) (length reply_2.old) }
 {
     if !have_room(command.len(), reply_1.len(), reply_2.len()) {
-        return too_short(state);
+        let answer = refused(OUTPUT_SHORT, 0);
+        return Closed { answer, state };
     }
     if state.due < NOTHING_DUE {
         let end = heard(state.start, state.held);

@@ -37,8 +37,7 @@ module _ (t : Table) (q : Queues) (v : valid_queues t q ≡ true) (place flag : 
     pub place_inside : place < devices t
     place_inside =
         ⊎_elim
-        (λ over. let none : last_of q place ≡ 0 = get_or-eq_default q.lasts 0 (omega (arith, g.lasts_long)) in
-        let z : ⊥ = omega (arith, some_sent) in absurd z)
+        (λ over. let none : last_of q place ≡ 0 = get_or-eq_default q.lasts 0 (omega (arith, g.lasts_long)) in absurd (omega (arith, some_sent)))
         (λ inside. inside)
         (le_or_lt (devices t) place)
 

@@ -1,3 +1,2 @@
--- Laws of confirmation: its ways, and that valid queues stay valid.
-pub mod Cases
+-- A law of confirmation: valid queues stay valid.
 pub mod Kept

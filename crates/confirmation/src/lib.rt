@@ -26,14 +26,12 @@ fn set_at(list: &mut [u8], at: usize, byte: u8)
 fn other_flag(flag: u8) -> u8
     ensures { result ≡ other_flag flag }
 {
-    if flag == 0 {
-        return 1;
-    }
-    0
+    u8::from(flag == 0)
 }
 
 // Confirms the packet of the device with this id, where it is the one with this flag: its events are
 // dropped, and the flag turns. In valid queues anything else changes nothing.
+#[tactic(auto, unfolding(crate::specs::Confirmation::confirmed))]
 pub fn confirm(
     ids: &[u8],
     id: u8,
@@ -47,10 +45,7 @@ pub fn confirm(
 {
     let device = device_of(ids, id);
     let last = byte_at(lasts, device);
-    if last == 0 {
-        return;
-    }
-    if byte_at(flags, device) != flag {
+    if last == 0 || byte_at(flags, device) != flag {
         return;
     }
     drop_oldest(device, last, counts, slots);

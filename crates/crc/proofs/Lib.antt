@@ -4,4 +4,5 @@ pub mod Register
 pub mod Table
 pub mod Byte
 pub mod Fitting
+pub mod Pairs
 pub mod BitByBit

@@ -16,7 +16,7 @@ ghost use Rattle.crc.specs.Check.{modbus_check};
 use rows::MODBUS_ROWS;
 
 // From so many bytes on the check by the rows is faster, the rows' copy included.
-const ROWS_FROM: usize = 36;
+const ROWS_FROM: usize = 64;
 
 // The Modbus check of the bytes.
 pub fn modbus_check(bytes: &[u8]) -> u16
@@ -43,10 +43,8 @@ pub fn check_without_rows(frame: &[u8]) -> u16
     ensures { result ≡ modbus_check frame.now }
 {
     let mut register = 0xFFFF;
-    let mut i = 0;
-    while i < frame.len() {
-        register = (register / 256) ^ eight_steps((register ^ (frame[i] as u32)) % 256);
-        i += 1;
+    for byte in frame {
+        register = (register / 256) ^ eight_steps((register ^ u32::from(*byte)) % 256);
     }
     register as u16
 }
@@ -67,17 +65,16 @@ fn check_by_rows(input: &[u8]) -> u16
 {
     let rows = modbus_rows();
     let mut register: u16 = 0xFFFF;
-    let mut i = 0;
-    while i + 1 < input.len() {
-        let first = input[i] as u16;
-        let second = input[i + 1] as u16;
-        let at = (register ^ (first + second * 256)) as usize;
+    let (pairs, last) = input.as_chunks::<2>();
+    for pair in pairs {
+        let at = (register ^ u16::from_le_bytes(*pair)) as usize;
         register = rows[1][at % 256] ^ rows[0][at / 256];
-        i += 2;
     }
-    if i < input.len() {
-        let at = (register ^ (input[i] as u16)) as usize;
-        register = (register / 256) ^ rows[0][at % 256];
+    match last {
+        [byte] => {
+            let at = (register ^ u16::from(*byte)) as usize;
+            (register / 256) ^ rows[0][at % 256]
+        }
+        _ => register,
     }
-    register
 }

@@ -24,10 +24,8 @@ pub fn crc7(characters: &[u8]) -> u8
     ensures { result ≡ crc7 characters.now }
 {
     let mut register: u32 = 0;
-    let mut i = 0;
-    while i < characters.len() {
-        register = four_steps(four_steps(register ^ (characters[i] as u32)));
-        i += 1;
+    for character in characters {
+        register = four_steps(four_steps(register ^ u32::from(*character)));
     }
     (register / 2) as u8
 }

@@ -1,8 +1,9 @@
 // What a check should have been and what stood there, worked out again from the bytes that were
 // refused.
-use crate::number::digit;
+use crate::hex::digit_at;
 use crate::part::start_of;
 use crate::say::{Page, two};
+use crate::texts::Text;
 use crate::{say, texts, word};
 use beginning::command_start;
 use checkbyte::ebus_check;
@@ -21,64 +22,41 @@ const FILL_BYTE: u8 = 0xFF;
 // An exchange has at most two attempts at its command and two at its reply.
 const MOST_TELEGRAMS: u8 = 4;
 
-// The check that is due and the one that was found. Neither is known where the place is not that of
-// a check.
+// The check that is due and the one that was found.
 #[derive(Clone, Copy)]
 pub struct Checked {
-    pub known: bool,
     pub expected: u8,
     pub found: u8,
 }
 
-fn unknown() -> Checked {
-    Checked {
-        known: false,
-        expected: 0,
-        found: 0,
-    }
-}
-
 // ---- eBUS
 
-// The check byte of an exchange whose first raw byte stands at this place of the run. Its telegrams
-// are read in order, as the judge does: behind a NACK the same is read once more.
-pub fn check_of(run: &[u8], place: usize) -> Checked {
+// The check byte of an exchange whose first raw byte stands at this place of the run, if one does. Its
+// telegrams are read in order, as the judge does: behind a NACK the same is read once more.
+pub fn check_of(run: &[u8], place: usize) -> Option<Checked> {
     let mut at = command_start(run);
     let mut command = true;
     for _ in 0..MOST_TELEGRAMS {
-        let t = telegram_at(run, command, at);
-        if !t.whole {
-            return unknown();
-        }
+        let t = telegram_at(run, command, at).ok()?;
         if t.last == place {
             return last_of(t);
         }
         if byte_at(run, t.next) == ACK {
             command = false;
         }
-        at = behind(t.next);
+        at = t.next.saturating_add(1);
     }
-    unknown()
+    None
 }
 
 // The check byte of a telegram is its last, over those before it.
-fn last_of(t: Telegram) -> Checked {
+fn last_of(t: Telegram) -> Option<Checked> {
     let bytes = t.bytes;
-    let len = t.len;
-    if len == 0 {
-        return unknown();
-    }
-    let last = len - 1;
-    Checked {
-        known: true,
-        expected: ebus_check(start_of(&bytes, last)),
-        found: byte_at(&bytes, last),
-    }
-}
-
-// The next place, where there is one.
-fn behind(place: usize) -> usize {
-    if place < usize::MAX { place + 1 } else { place }
+    let (found, before) = start_of(&bytes, t.len).split_last()?;
+    Some(Checked {
+        expected: ebus_check(before),
+        found: *found,
+    })
 }
 
 // A refusal of what was heard on eBUS. `before` bytes were heard before the run, and the place
@@ -102,23 +80,14 @@ pub fn refused_frame(rt: &impl Print, page: Page, why: Refusal, input: &[u8]) ->
         return say::refused(rt, page, why);
     }
     let place = why.place;
-    let value = modbus_check(word::part(input, fill(input), place)) as u64;
+    let fill = input.iter().take_while(|b| **b == FILL_BYTE).count();
+    let value = modbus_check(word::part(input, fill, place)) as u64;
     let named = say::refused_for(rt, page, why);
-    let due = texts::text(rt, named, texts::EXPECTED_PAIR, two(value, value / 256));
+    let due = texts::filled(rt, named, Text::ExpectedPair, two(value, value / 256));
     let low = byte_at(input, place) as u64;
-    let high = byte_at(input, behind(place)) as u64;
-    let said = texts::text(rt, due, texts::FOUND_PAIR, two(low, high));
-    texts::plain(rt, said, texts::REFUSED_END)
-}
-
-// How many FF an input begins with.
-fn fill(input: &[u8]) -> usize {
-    for i in 0..input.len() {
-        if input[i] != FILL_BYTE {
-            return i;
-        }
-    }
-    input.len()
+    let high = byte_at(input, place.saturating_add(1)) as u64;
+    let said = texts::filled(rt, due, Text::FoundPair, two(low, high));
+    texts::plain(rt, said, Text::RefusedEnd)
 }
 
 // ---- Railbus
@@ -129,25 +98,24 @@ pub fn refused_packet(rt: &impl Print, page: Page, why: Refusal, input: &[u8]) -
         return say::refused(rt, page, why);
     }
     let place = why.place;
-    let high = digit(byte_at(input, place)) % 16;
-    let low = digit(byte_at(input, behind(place))) % 16;
+    let high = digit_at(input, place).unwrap_or(0);
+    let low = digit_at(input, place.saturating_add(1)).unwrap_or(0);
     let checked = Checked {
-        known: true,
         expected: checksum(start_of(input, place)),
         found: high * 16 + low,
     };
-    say_checked(rt, page, why, checked)
+    say_checked(rt, page, why, Some(checked))
 }
 
 // ---- saying it
 
 // A refusal, and in its brackets what was expected and found, where that is known.
-fn say_checked(rt: &impl Print, page: Page, why: Refusal, checked: Checked) -> Page {
-    if !checked.known {
+fn say_checked(rt: &impl Print, page: Page, why: Refusal, checked: Option<Checked>) -> Page {
+    let Some(checked) = checked else {
         return say::refused(rt, page, why);
-    }
+    };
     let named = say::refused_for(rt, page, why);
     let bytes = two(checked.expected as u64, checked.found as u64);
-    let said = texts::text(rt, named, texts::EXPECTED, bytes);
-    texts::plain(rt, said, texts::REFUSED_END)
+    let said = texts::filled(rt, named, Text::Expected, bytes);
+    texts::plain(rt, said, Text::RefusedEnd)
 }

@@ -3,7 +3,7 @@
 use crate::hex::MOST;
 use crate::part::start_of;
 use crate::word;
-use lists::{put, smaller};
+use spelling::put_behind;
 
 // The longest exchange has 157 raw bytes. Any idle time before it may be lost from its front: what is
 // left of it is idle time too.
@@ -35,33 +35,18 @@ impl Heard {
             return self;
         }
         let old = self.bytes;
-        let kept = smaller(self.kept, MOST_HEARD);
+        let kept = self.kept.min(MOST_HEARD);
         let mut both = [0u8; BOTH];
-        put_at(start_of(&old, kept), &mut both, 0);
-        put_at(run, &mut both, kept);
+        put_behind(&mut both, 0, start_of(&old, kept));
+        put_behind(&mut both, kept, run);
         let end = kept + run.len();
-        let from = over(end);
+        let from = end.saturating_sub(MOST_HEARD);
         let mut bytes = [0u8; MOST_HEARD];
-        put_at(word::part(&both, from, end), &mut bytes, 0);
+        put_behind(&mut bytes, 0, word::part(&both, from, end));
         Heard {
             bytes,
-            kept: smaller(end, MOST_HEARD),
-            before: std::num::wrapping_add_usize(self.before, from),
+            kept: end.min(MOST_HEARD),
+            before: self.before.wrapping_add(from),
         }
-    }
-}
-
-// How many of so many bytes are not kept.
-fn over(n: usize) -> usize {
-    if MOST_HEARD < n {
-        return n - MOST_HEARD;
-    }
-    0
-}
-
-// Puts the bytes into an output from a place on.
-fn put_at(bytes: &[u8], out: &mut [u8], at: usize) {
-    if at <= out.len() {
-        put(bytes, &mut out[at..]);
     }
 }

@@ -3,9 +3,10 @@
 //
 // A page is handed on by value. Each function takes one and answers it with something more on it.
 use crate::part::start_of;
+use crate::texts::Text;
 use crate::{names, texts};
 use itoa::Buffer;
-use refusal::{Refusal, Written};
+use refusal::Refusal;
 use spelling::glyph;
 use std::io::Error;
 
@@ -87,10 +88,11 @@ fn bytes(rt: &impl Print, page: Page, list: &[u8]) -> Page {
 
 // A serial, in eight digits.
 fn serial(rt: &impl Print, page: Page, s: u32) -> Page {
-    let a = hex(rt, page, (s / 0x1000000) as u8);
-    let b = hex(rt, a, (s / 0x10000 % 256) as u8);
-    let c = hex(rt, b, (s / 0x100 % 256) as u8);
-    hex(rt, c, (s % 256) as u8)
+    let mut p = page;
+    for b in s.to_be_bytes() {
+        p = hex(rt, p, b);
+    }
+    p
 }
 
 // Up to three numbers that a text is filled with, the next one first.
@@ -127,18 +129,16 @@ fn piece(rt: &impl Print, page: Page, b: u8, number: u64) -> Page {
         b'#' => decimal(rt, page, number),
         b'$' => hex(rt, page, (number % 256) as u8),
         b'^' => serial(rt, page, (number % 0x100000000) as u32),
-        b'_' => byte(rt, page, b' '),
-        b'|' => byte(rt, page, b'\n'),
         _ => byte(rt, page, b),
     }
 }
 
-// A text in which `#` stands for the next number in decimal, `$` for it in two hexadecimal digits,
-// `^` for it in eight, `_` for a blank, and `|` for the end of a line.
-pub fn filled(rt: &impl Print, page: Page, text: &[u8], numbers: Numbers) -> Page {
+// A text in which `#` stands for the next number in decimal, `$` for it in two hexadecimal digits, and
+// `^` for it in eight.
+pub(crate) fn filled(rt: &impl Print, page: Page, text: &str, numbers: Numbers) -> Page {
     let mut p = page;
     let mut left = numbers;
-    for b in text {
+    for b in text.as_bytes() {
         p = piece(rt, p, *b, left.0);
         left = left_behind(*b, left);
     }
@@ -151,12 +151,12 @@ pub fn ended(rt: &impl Print, page: Page, list: &[u8]) -> Page {
 }
 
 // A line of bytes, behind their name.
-pub fn named(rt: &impl Print, page: Page, name: u8, list: &[u8]) -> Page {
+pub fn named(rt: &impl Print, page: Page, name: Text, list: &[u8]) -> Page {
     ended(rt, texts::plain(rt, page, name), list)
 }
 
 // A line of text, behind its name.
-pub fn spelled(rt: &impl Print, page: Page, name: u8, text: &[u8]) -> Page {
+pub fn spelled(rt: &impl Print, page: Page, name: Text, text: &[u8]) -> Page {
     byte(
         rt,
         put(rt, byte(rt, texts::plain(rt, page, name), b' '), text),
@@ -166,11 +166,11 @@ pub fn spelled(rt: &impl Print, page: Page, name: u8, text: &[u8]) -> Page {
 
 // The end of a first line: how many FF were passed over.
 pub fn skipped(rt: &impl Print, page: Page, count: usize) -> Page {
-    texts::text(rt, page, texts::SKIPPED, one(count as u64))
+    texts::filled(rt, page, Text::Skipped, one(count as u64))
 }
 
 pub fn refused(rt: &impl Print, page: Page, why: Refusal) -> Page {
-    texts::plain(rt, refused_for(rt, page, why), texts::REFUSED_END)
+    texts::plain(rt, refused_for(rt, page, why), Text::RefusedEnd)
 }
 
 // A refusal through its name. The bracket is still open, for who has more to say in it.
@@ -178,15 +178,15 @@ pub(crate) fn refused_for(rt: &impl Print, page: Page, why: Refusal) -> Page {
     let numbers = two(why.number as u64, why.place as u64);
     names::name(
         rt,
-        texts::text(rt, page, texts::REFUSED, numbers),
+        texts::filled(rt, page, Text::Refused, numbers),
         why.number,
     )
 }
 
-// What a writer answered, with what stands at the start of its output.
-pub fn written(rt: &impl Print, page: Page, w: Written, out: &[u8]) -> Page {
+// What a writer answered: so many bytes at the start of its output, or its refusal.
+pub fn written(rt: &impl Print, page: Page, w: Result<usize, Refusal>, out: &[u8]) -> Page {
     match w {
-        Written::Length(n) => named(rt, page, texts::WRITTEN, start_of(out, n)),
-        Written::Refused(why) => refused(rt, page, why),
+        Ok(n) => named(rt, page, Text::Written, start_of(out, n)),
+        Err(why) => refused(rt, page, why),
     }
 }

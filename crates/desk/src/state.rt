@@ -1,7 +1,8 @@
 // What the tool keeps from line to line, and what a command leaves: the desk after it.
-use crate::fault::{EXTRA, Fault, UNKNOWN_COMMAND};
+use crate::fault::{Fault, Wrong};
 use crate::heard::Heard;
 use crate::say::Page;
+use crate::texts::Text;
 use crate::{fault, heard, say, texts, word};
 use listening::Listening;
 use relay::{REGISTERS, Remembered};
@@ -200,7 +201,7 @@ impl Desk {
     // The line is repeated, where that is asked for.
     pub fn echoed(self, rt: &impl Print, line: &[u8]) -> Desk {
         if self.echo {
-            return self.with_page(say::spelled(rt, self.page, texts::ECHO, line));
+            return self.with_page(say::spelled(rt, self.page, Text::Echo, line));
         }
         self
     }
@@ -218,13 +219,13 @@ impl Desk {
 
     // The line is done.
     pub fn past_line(mut self) -> Desk {
-        self.line = fault::one_more(self.line);
+        self.line = self.line.saturating_add(1);
         self
     }
 
     // The command is obeyed, and has nothing else to say.
     pub fn ok(self, rt: &impl Print) -> Desk {
-        self.with_page(texts::plain(rt, self.page, texts::OK))
+        self.with_page(texts::plain(rt, self.page, Text::Done))
     }
 
     // Says what was wrong with the line.
@@ -233,19 +234,13 @@ impl Desk {
     }
 
     // Says what was wrong at this place of the line.
-    pub fn wrong_at(self, rt: &impl Print, what: u8, at: usize) -> Desk {
-        self.wrong(rt, fault::fault_at(what, at))
-    }
-
-    // A word stands behind what the command takes.
-    pub fn extra(self, rt: &impl Print, line: &[u8], at: usize) -> Desk {
-        let w = word::next(line, at);
-        self.wrong_at(rt, EXTRA, w.from)
+    pub fn wrong_at(self, rt: &impl Print, what: Wrong, at: usize) -> Desk {
+        self.wrong(rt, what.at(at))
     }
 
     // The line's first word is no command.
     pub fn unknown(self, rt: &impl Print, line: &[u8]) -> Desk {
         let w = word::next(line, 0);
-        self.wrong_at(rt, UNKNOWN_COMMAND, w.from)
+        self.wrong_at(rt, Wrong::UnknownCommand, w.from)
     }
 }

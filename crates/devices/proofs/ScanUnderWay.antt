@@ -1,5 +1,6 @@
 -- A whole scan under way: what holds after every request that found a device, and what the scan comes to at its end.
 -- Assumes nothing.
+use Rattle.std.specs.Prelude.{Ok}
 use mathlib.Core.Path.{◌≡◌, refl, sym, ap, ap₂, ◌∙◌, subst}
 use mathlib.Core.Bool.{Bool, true}
 use mathlib.Core.List.{List, ◌∷◌, ◌++◌}
@@ -97,7 +98,7 @@ module _ (cap : ℕ) (serials addresses marks₀ fs₀ fa₀ : List ℕ) where
 
   -- what the call gives, from what the scan comes to
   abbrev Given : Scanned → List ℕ → List ℕ → Table → Type 0
-  Given scanned fs fa t = GivesScan (const ℕ) (concluded fs₀ fa₀ (columns serials addresses marks₀) whole) scanned fs fa t
+  Given scanned fs fa t = GivesScan (const ℕ) (concluded fs₀ fa₀ (columns serials addresses marks₀) whole) (Ok scanned) fs fa t
 
   module _ (v₀ : valid (columns serials addresses marks₀) ≡ true) (room : length serials ≤ length fs₀) (room' : length serials ≤ length fa₀) where
     given : (scanned : Scanned) (fs fa : List ℕ) (t : Table) → finished scanned fs fa t ≡ finish 0 0 fs₀ fa₀ (columns serials addresses marks₀) whole → Given scanned fs fa t
@@ -105,19 +106,21 @@ module _ (cap : ℕ) (serials addresses marks₀ fs₀ fa₀ : List ℕ) where
     given scanned fs fa t e =
         let few = heard_few cap Start (columns serials addresses marks₀) v₀ in
         record {
-          result = ap (λ (x : Finish). x.scanned) e ∙ ap₂ (closing whole) (zero-add (length whole)) (zero-add (fill_heard whole));
+          result = ap (λ (x : Finish). Ok x.scanned) e ∙ ap₂ (λ (n f : ℕ). Ok (closing whole n f)) (zero-add (length whole)) (zero-add (fill_heard whole));
           serials_are = ap (λ (x : Finish). x.serials) e ∙ put_first (serials_heard whole) fs₀ (omega (arith, few.0));
           addresses_are = ap (λ (x : Finish). x.addresses) e ∙ put_first (addresses_heard whole) fa₀ (omega (arith, few.0, few.1));
           table_is = ap (λ (x : Finish). x.table) e;
         }
 
     module _ (marks fs fa : List ℕ) (sent fill : ℕ) (g : Going marks fs fa sent fill) where
-      pub going_capped : cap ≤ sent → Given (Unfinished sent fill) fs fa (columns serials addresses marks)
+      pub going_capped : cap ≤ sent → Given (Unfinished cap fill) fs fa (columns serials addresses marks)
       going_capped h =
           let none : cap - sent ≡ 0 = omega arith in
-          given (Unfinished sent fill) fs fa (columns serials addresses marks)
+          let all : sent ≡ cap = omega (arith, g.under) in
+          subst (λ (n : ℕ). Given (Unfinished n fill) fs fa (columns serials addresses marks)) all
+          (given (Unfinished sent fill) fs fa (columns serials addresses marks)
           (sym (ap (λ (n : ℕ). finish sent fill fs fa (columns serials addresses marks) (scan_from n (request_after sent) (columns serials addresses marks))) none
-          ∙ finish_none sent fill fs fa (request_after sent) (columns serials addresses marks)) ∙ g.same)
+          ∙ finish_none sent fill fs fa (request_after sent) (columns serials addresses marks)) ∙ g.same))
 
       -- so few FF are counted that those of an answer more can be added
       pub going_fill : (dominant : ℕ) → dominant ≤ windows → fill + dominant ≤ windows * (most_devices + 1)

@@ -1,6 +1,6 @@
 -- A whole scan, request by request under the caller's cap. Rule D8.
 -- Assumes nothing.
-use Rattle.std.specs.Prelude.{◌≡◌, ℕ, zero, suc, ◌+◌, min, List, [], ◌∷◌, length}
+use Rattle.std.specs.Prelude.{◌≡◌, ℕ, zero, suc, ◌+◌, min, List, [], ◌∷◌, length, Result, Ok, Err}
 use Rattle.lists.specs.Starting.{starting}
 use Rattle.refusal.specs.Numbers.{Numbers, accepted_with, refused_with}
 use Rattle.refusal.specs.declared.Refusal.{Refusal}
@@ -11,10 +11,8 @@ use Rattle.turns.specs.Request.{Turn, respond}
 use Rattle.guard.specs.Guard.{guard}
 use Rattle.turns.specs.declared.Answer.{Answer}
 use Rattle.turns.specs.declared.Answer.TheVariants.{Silence, Found, End}
-use Rattle.guard.specs.declared.Guard.{Guard}
-use Rattle.guard.specs.declared.Guard.TheVariants.{Passed, Refused as GuardRefused}
 use Rattle.devices.specs.declared.Scanned.{Scanned}
-use Rattle.devices.specs.declared.Scanned.TheVariants.{Complete, Nobody, Unfinished, Refused}
+use Rattle.devices.specs.declared.Scanned.TheVariants.{Complete, Nobody, Unfinished}
 
 -- a device was found, so the scan goes on; end and silence end it
 abbrev pub onward : Answer → List Turn → List Turn
@@ -75,15 +73,15 @@ closing (turn ∷ turns) = closed_by turn.answer (closing turns)
 
 -- rule D8: a scan's answer as numbers: how it ended, the requests sent, how many devices were heard, which its lists hold, and how
 -- many FF stood before its answers
-abbrev pub scanned_numbers : Scanned → ℕ → Numbers
-scanned_numbers (Complete sent skipped) heard = accepted_with (1 ∷ sent ∷ heard ∷ skipped ∷ [])
-scanned_numbers (Nobody sent skipped) heard = accepted_with (2 ∷ sent ∷ heard ∷ skipped ∷ [])
-scanned_numbers (Unfinished sent skipped) heard = accepted_with (3 ∷ sent ∷ heard ∷ skipped ∷ [])
-scanned_numbers (Refused why) heard = refused_with why
+abbrev pub scanned_numbers : Result Scanned Refusal → ℕ → Numbers
+scanned_numbers (Ok (Complete sent skipped)) heard = accepted_with (1 ∷ sent ∷ heard ∷ skipped ∷ [])
+scanned_numbers (Ok (Nobody sent skipped)) heard = accepted_with (2 ∷ sent ∷ heard ∷ skipped ∷ [])
+scanned_numbers (Ok (Unfinished sent skipped)) heard = accepted_with (3 ∷ sent ∷ heard ∷ skipped ∷ [])
+scanned_numbers (Err why) heard = refused_with why
 
 -- what the call gives: how the scan closed, the two lent lists afterwards, the table afterwards, and the turns that it made
 pub record Scanning : Type 0 where
-  pub scanned : Scanned
+  pub scanned : Result Scanned Refusal
   pub serials : List ℕ
   pub addresses : List ℕ
   pub table : Table
@@ -91,7 +89,7 @@ pub record Scanning : Type 0 where
 
 -- what the call is promised to give: its result, which shows how the scan closed and may show how many devices were heard,
 -- and what the two lists and the table hold afterwards
-pub record GivesScan {A : Type 0} (shows : Scanned → ℕ → A) (given : Scanning) (r : A) (serials addresses : List ℕ) (t : Table) : Type 0 where
+pub record GivesScan {A : Type 0} (shows : Result Scanned Refusal → ℕ → A) (given : Scanning) (r : A) (serials addresses : List ℕ) (t : Table) : Type 0 where
   pub result : r ≡ shows given.scanned (length (serials_heard given.turns))
   pub serials_are : serials ≡ given.serials
   pub addresses_are : addresses ≡ given.addresses
@@ -101,7 +99,7 @@ pub record GivesScan {A : Type 0} (shows : Scanned → ℕ → A) (given : Scann
 abbrev pub concluded : List ℕ → List ℕ → Table → List Turn → Scanning
 concluded serials addresses t turns =
     record {
-      scanned = closing turns (length turns) (fill_heard turns);
+      scanned = Ok (closing turns (length turns) (fill_heard turns));
       serials = starting (serials_heard turns) serials;
       addresses = starting (addresses_heard turns) addresses;
       table = left_by turns t;
@@ -110,11 +108,11 @@ concluded serials addresses t turns =
 
 -- a refusal leaves all that was lent as it was, and no request is made (rule N1)
 abbrev pub scan_refusing : Refusal → List ℕ → List ℕ → Table → Scanning
-scan_refusing why serials addresses t = record { scanned = Refused why; serials = serials; addresses = addresses; table = t; turns = [] }
+scan_refusing why serials addresses t = record { scanned = Err why; serials = serials; addresses = addresses; table = t; turns = [] }
 
-abbrev pub scan_behind : Guard → ℕ → List ℕ → List ℕ → Table → Scanning
-scan_behind Passed cap serials addresses t = concluded serials addresses t (scan_from cap Start t)
-scan_behind (GuardRefused why) cap serials addresses t = scan_refusing why serials addresses t
+abbrev pub scan_behind : Result (Unit {0}) Refusal → ℕ → List ℕ → List ℕ → Table → Scanning
+scan_behind (Ok tt) cap serials addresses t = concluded serials addresses t (scan_from cap Start t)
+scan_behind (Err why) cap serials addresses t = scan_refusing why serials addresses t
 
 -- the call: each of the two lists has room for all devices, so the shorter one is measured (rules D8, N2)
 unfoldable pub scan_call : ℕ → List ℕ → List ℕ → Table → Scanning

@@ -32,10 +32,8 @@ fn put_keys(serials: &[u32], marks: &[u8], keys: &mut [u32])
     requires { (length marks.now ≡ length serials.now) × (length serials.now ≤ length keys.old) × (all serial_right serials.now ≡ true) }
     ensures { keys.new ≡ starting (keys_of serials.now marks.now) keys.old }
 {
-    let mut i = 0;
-    while i < serials.len() {
-        keys[i] = key(marks[i], serials[i]);
-        i += 1;
+    for (i, serial) in serials.iter().enumerate() {
+        keys[i] = key(marks[i], *serial);
     }
 }
 
@@ -43,11 +41,7 @@ fn put_keys(serials: &[u32], marks: &[u8], keys: &mut [u32])
 fn clear(marks: &mut [u8])
     ensures { marks.new ≡ replicate (length marks.old) 0 }
 {
-    let mut i = 0;
-    while i < marks.len() {
-        marks[i] = 0;
-        i += 1;
-    }
+    marks.fill(0);
 }
 
 // The contest of all devices with the marks as they stand.

@@ -14,71 +14,63 @@ ghost use Rattle.table.specs.Table.{columns};
 ghost use Rattle.devices.specs.Calls.{Gives, ask_call, start_call, continue_call, offer_call};
 ghost use Rattle.devices.specs.WholeScan.{GivesScan, scan_call};
 
-use guard::Guard;
 use refusal::Refusal;
-use requests::{Request, RequestRead};
+use requests::Request;
 
 // An answer buffer holds at least this: one FF for each of 32 windows, and the longest frame.
 pub const ANSWER_ROOM: usize = 42;
 
-// What a request gives: the length of the answer at the start of the buffer, silence, or the
-// refusal.
-#[derive(Clone, Copy)]
-pub enum Response {
-    Answered(usize),
-    Silent,
-    Refused(Refusal),
-}
-
 // What a whole scan gives, with the number of requests sent and how many FF stood before all its
-// answers together: the end was heard, nobody is there, or the cap was reached; or the refusal.
-#[derive(Clone, Copy)]
+// answers together: the end was heard, nobody is there, or the cap was reached.
+#[derive(Clone, Copy, PartialEq, Eq)]
 pub enum Scanned {
     Complete { requests: usize, skipped: usize },
     Nobody { requests: usize, skipped: usize },
     Unfinished { requests: usize, skipped: usize },
-    Refused(Refusal),
 }
 
 // A request as it was read, behind the guard: a refused one gives its reader's refusal and changes
-// nothing. The three calls below are uses of this one.
+// nothing. Answers how many bytes the devices' answer has; silence has none. The three calls below are
+// uses of this one.
+#[tactic(auto, unfolding(crate::specs::Calls::ask_call, crate::specs::Calls::answering))]
 pub fn ask(
-    read: RequestRead,
+    read: Result<Request, Refusal>,
     serials: &[u32],
     addresses: &[u8],
     marks: &mut [u8],
     answer: &mut [u8],
-) -> Response
+) -> Result<Option<usize>, Refusal>
     ensures { Gives id (ask_call read answer.old (columns serials.now addresses.now marks.old)) result answer.new (columns serials.now addresses.now marks.new) }
 {
     let ok = table::valid(serials, addresses, marks);
-    let admitted = guard::admit(ANSWER_ROOM, answer.len(), ok);
-    match admitted {
-        Guard::Refused(why) => Response::Refused(why),
-        Guard::Passed => match read {
-            RequestRead::Refused(why) => Response::Refused(why),
-            RequestRead::Asked(request) => {
-                let heard = bus::respond(request, serials, addresses, marks);
-                wire::write(heard, answer)
-            }
-        },
-    }
+    guard::admit(ANSWER_ROOM, answer.len(), ok)?;
+    let request = read?;
+    let heard = bus::respond(request, serials, addresses, marks);
+    Ok(wire::write(heard, answer))
 }
 
 // A start: all marks become 0, then all devices contend.
-pub fn start(serials: &[u32], addresses: &[u8], marks: &mut [u8], answer: &mut [u8]) -> Response
+pub fn start(
+    serials: &[u32],
+    addresses: &[u8],
+    marks: &mut [u8],
+    answer: &mut [u8],
+) -> Result<Option<usize>, Refusal>
     ensures { Gives id (start_call answer.old (columns serials.now addresses.now marks.old)) result answer.new (columns serials.now addresses.now marks.new) }
 {
-    let read = RequestRead::Asked(Request::Start);
-    ask(read, serials, addresses, marks, answer)
+    ask(Ok(Request::Start), serials, addresses, marks, answer)
 }
 
 // A continue: all devices contend with the marks as they stand.
-pub fn resume(serials: &[u32], addresses: &[u8], marks: &mut [u8], answer: &mut [u8]) -> Response
+pub fn resume(
+    serials: &[u32],
+    addresses: &[u8],
+    marks: &mut [u8],
+    answer: &mut [u8],
+) -> Result<Option<usize>, Refusal>
     ensures { Gives id (continue_call answer.old (columns serials.now addresses.now marks.old)) result answer.new (columns serials.now addresses.now marks.new) }
 {
-    let read = RequestRead::Asked(Request::Continue);
-    ask(read, serials, addresses, marks, answer)
+    ask(Ok(Request::Continue), serials, addresses, marks, answer)
 }
 
 // A raw frame offered to the devices: the start or the continue that it names.
@@ -88,7 +80,7 @@ pub fn offer(
     addresses: &[u8],
     marks: &mut [u8],
     answer: &mut [u8],
-) -> Response
+) -> Result<Option<usize>, Refusal>
     ensures { Gives id (offer_call frame.now answer.old (columns serials.now addresses.now marks.old)) result answer.new (columns serials.now addresses.now marks.new) }
 {
     let read = requests::read_request(frame);
@@ -97,6 +89,7 @@ pub fn offer(
 
 // A whole scan of at most so many requests. The serials and addresses heard stand at the start of
 // the two lists.
+#[tactic(auto, unfolding(crate::specs::WholeScan::scan_call))]
 pub fn scan(
     serials: &[u32],
     addresses: &[u8],
@@ -104,21 +97,19 @@ pub fn scan(
     found_serials: &mut [u32],
     found_addresses: &mut [u8],
     cap: usize,
-) -> Scanned
+) -> Result<Scanned, Refusal>
     ensures { GivesScan (const ℕ) (scan_call cap found_serials.old found_addresses.old (columns serials.now addresses.now marks.old)) result found_serials.new found_addresses.new (columns serials.now addresses.now marks.new) }
 {
     let room = lists::smaller(found_serials.len(), found_addresses.len());
     let ok = table::valid(serials, addresses, marks);
-    let admitted = guard::admit(serials.len(), room, ok);
-    match admitted {
-        Guard::Refused(why) => Scanned::Refused(why),
-        Guard::Passed => trace::run(
-            serials,
-            addresses,
-            marks,
-            found_serials,
-            found_addresses,
-            cap,
-        ),
-    }
+    guard::admit(serials.len(), room, ok)?;
+    let scanned = trace::run(
+        serials,
+        addresses,
+        marks,
+        found_serials,
+        found_addresses,
+        cap,
+    );
+    Ok(scanned)
 }

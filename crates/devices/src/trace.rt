@@ -1,5 +1,5 @@
 // The requests of a whole scan, under the caller's cap.
-ghost use Rattle.std.specs.Prelude.{◌≡◌, true, ℕ, ◌≤◌, eqb, length};
+ghost use Rattle.std.specs.Prelude.{◌≡◌, true, ℕ, ◌≤◌, eqb, length, Ok};
 ghost use Rattle.lists.specs.Choice.{pick};
 ghost use Rattle.requests.specs.declared.Request.TheVariants.{Start, Continue};
 ghost use mathlib.Mathlib.Logic.Function.Defs.{const};
@@ -32,11 +32,10 @@ pub(crate) fn run(
     cap: usize,
 ) -> Scanned
     requires { (valid (columns serials.now addresses.now marks.old) ≡ true) × (length serials.now ≤ length found_serials.old) × (length serials.now ≤ length found_addresses.old) }
-    ensures { GivesScan (const ℕ) (concluded found_serials.old found_addresses.old (columns serials.now addresses.now marks.old) (scan_from cap Start (columns serials.now addresses.now marks.old))) result found_serials.new found_addresses.new (columns serials.now addresses.now marks.new) }
+    ensures { GivesScan (const ℕ) (concluded found_serials.old found_addresses.old (columns serials.now addresses.now marks.old) (scan_from cap Start (columns serials.now addresses.now marks.old))) (Ok result) found_serials.new found_addresses.new (columns serials.now addresses.now marks.new) }
 {
-    let mut sent = 0;
     let mut skipped = 0;
-    while sent < cap {
+    for sent in 0..cap {
         let request = request_after(sent);
         let heard = bus::respond(request, serials, addresses, marks);
         match heard {
@@ -47,7 +46,6 @@ pub(crate) fn run(
             } => {
                 found_serials[sent] = serial;
                 found_addresses[sent] = address;
-                sent += 1;
                 skipped += dominant;
             }
             Answer::End { dominant } => {
@@ -66,7 +64,7 @@ pub(crate) fn run(
         }
     }
     Scanned::Unfinished {
-        requests: sent,
+        requests: cap,
         skipped,
     }
 }

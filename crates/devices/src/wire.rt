@@ -7,7 +7,6 @@ ghost use Rattle.table.specs.Table.{serial_limit};
 ghost use Rattle.turns.specs.declared.Answer.TheVariants.{Found, End};
 ghost use Rattle.turns.specs.Inner.{Writable};
 
-use crate::Response;
 use answers::put_fill;
 use framing::{END_LENGTH, FOUND_LENGTH};
 use turns::Answer;
@@ -19,7 +18,7 @@ fn write_found(dominant: usize, serial: u32, address: u8, answer: &mut [u8]) -> 
     ensures { (result ≡ length (answer_bytes (Found dominant serial address))) × (answer.new ≡ starting (answer_bytes (Found dominant serial address)) answer.old) }
 {
     put_fill(dominant, answer);
-    answers::write_found(serial, address, &mut answer[dominant..]);
+    let _ = answers::write_found(serial, address, &mut answer[dominant..]);
     dominant + FOUND_LENGTH
 }
 
@@ -29,22 +28,22 @@ fn write_end(dominant: usize, answer: &mut [u8]) -> usize
     ensures { (result ≡ length (answer_bytes (End dominant))) × (answer.new ≡ starting (answer_bytes (End dominant)) answer.old) }
 {
     put_fill(dominant, answer);
-    answers::write_end(&mut answer[dominant..]);
+    let _ = answers::write_end(&mut answer[dominant..]);
     dominant + END_LENGTH
 }
 
-// Writes the answer.
-pub(crate) fn write(heard: Answer, answer: &mut [u8]) -> Response
+// Writes the answer, and says how many bytes it has: silence has none.
+pub(crate) fn write(heard: Answer, answer: &mut [u8]) -> Option<usize>
     requires { Writable heard × (answer_room ≤ length answer.old) }
     ensures { (result ≡ response_to heard) × (answer.new ≡ starting (answer_bytes heard) answer.old) }
 {
     match heard {
-        Answer::Silence => Response::Silent,
+        Answer::Silence => None,
         Answer::Found {
             dominant,
             serial,
             address,
-        } => Response::Answered(write_found(dominant, serial, address, answer)),
-        Answer::End { dominant } => Response::Answered(write_end(dominant, answer)),
+        } => Some(write_found(dominant, serial, address, answer)),
+        Answer::End { dominant } => Some(write_end(dominant, answer)),
     }
 }

@@ -1,5 +1,7 @@
 -- Expanding and undoing are each other's inverse, and the lengths.
 -- Assumes nothing.
+use Rattle.std.specs.Prelude.{Result, Ok, Err}
+use Rattle.refusal.specs.declared.Refusal.{Refusal}
 use mathlib.Core.Path.{◌≡◌, refl, sym, ap, ◌∙◌}
 use mathlib.Core.List.{List, [], ◌∷◌, ◌++◌}
 use mathlib.Core.Logic.{◌⊎◌, inl, inr, ⊎_elim}
@@ -14,8 +16,6 @@ use Rattle.lists.proofs.Filling.{head_within, head_is, rest_is}
 use Rattle.refusal.specs.Output.{Output, bytes}
 use Rattle.escapes.specs.Escape.{esc, syn, escaped, expanded}
 use Rattle.escapes.proofs.Escaped.{escaped_plain, escaped_special}
-use Rattle.escapes.specs.declared.Logical.{Logical}
-use Rattle.escapes.specs.declared.Logical.TheVariants.{Byte, Refused}
 use Rattle.escapes.specs.Logical.{escape_at, logical_at}
 use Rattle.escapes.specs.Undo.{before, with_rest, undone_from, undone}
 use Rattle.escapes.proofs.LogicalBytes.{Stands, logical_stands, before_bytes, none_left}
@@ -28,7 +28,7 @@ kinds b =
     ⊎_elim (λ e. inl (inl e)) (λ no_esc. ⊎_elim (λ e. inl (inr e)) (λ no_syn. inr (no_esc, no_syn)) (same_or_not b syn)) (same_or_not b esc)
 
 module _ (run : List ℕ) (at b : ℕ) (rest : List ℕ) (on_wire_lem : drop at run ≡ escaped b ++ rest) where
-  plain : (b ≡ esc → ⊥) → (b ≡ syn → ⊥) → (next : ℕ) × (logical_at run at ≡ Byte b next) × (drop next run ≡ rest)
+  plain : (b ≡ esc → ⊥) → (b ≡ syn → ⊥) → (next : ℕ) × (logical_at run at ≡ Ok (b, next)) × (drop next run ≡ rest)
   unfolding logical_at
   plain no_esc no_syn =
       let due : drop at run ≡ b ∷ rest = on_wire_lem ∙ ap (λ (l : List ℕ). l ++ rest) (escaped_plain b no_esc no_syn) in (
@@ -37,7 +37,7 @@ module _ (run : List ℕ) (at b : ℕ) (rest : List ℕ) (on_wire_lem : drop at 
         rest_is run at b rest due,
       )
 
-  special : (b ≡ esc) ⊎ (b ≡ syn) → (next : ℕ) × (logical_at run at ≡ Byte b next) × (drop next run ≡ rest)
+  special : (b ≡ esc) ⊎ (b ≡ syn) → (next : ℕ) × (logical_at run at ≡ Ok (b, next)) × (drop next run ≡ rest)
   unfolding logical_at escape_at
   special which =
       let due : drop at run ≡ esc ∷ (b - esc) ∷ rest = on_wire_lem ∙ ap (λ (l : List ℕ). l ++ rest) (escaped_special b which) in
@@ -52,7 +52,7 @@ module _ (run : List ℕ) (at b : ℕ) (rest : List ℕ) (on_wire_lem : drop at 
       )
 
   -- the byte that stands there escaped is read, and what is left behind it is the rest
-  pub read_back : (next : ℕ) × (logical_at run at ≡ Byte b next) × (drop next run ≡ rest)
+  pub read_back : (next : ℕ) × (logical_at run at ≡ Ok (b, next)) × (drop next run ≡ rest)
   read_back = ⊎_elim special (λ no. plain no.0 no.1) (kinds b)
 
   pub read_within : at < length run
@@ -69,7 +69,7 @@ from_here (b ∷ bs) run zero at e room = let f : ⊥ = omega arith in absurd f
 from_here (b ∷ bs) run (suc m) at e room =
     let back = read_back run at b (expanded bs) e in
     ap (λ t. pick t (with_rest (logical_at run at) (undone_from run m)) (bytes [])) (lt-ltb _ _ (read_within run at b (expanded bs) e))
-    ∙ ap (λ (l : Logical). with_rest l (undone_from run m)) back.1
+    ∙ ap (λ (l : Result (ℕ × ℕ) Refusal). with_rest l (undone_from run m)) back.1
     ∙ ap (before b) (from_here bs run m back.0 back.2 (omega arith))
 
 -- ---- the lengths: an A9 or AA takes one raw byte more
@@ -117,12 +117,12 @@ module _ (raw : List ℕ) (at : ℕ) (bs : List ℕ) where
 
   -- one byte, and then whatever is accepted of the rest
   by_byte : (rest : ℕ → Output) (rec : (next : ℕ) (l : List ℕ) → at < next → rest next ≡ bytes l → drop next raw ≡ expanded l)
-      → (l : Logical) → Stands raw at l → with_rest l rest ≡ bytes bs → drop at raw ≡ expanded bs
+      → (l : Result (ℕ × ℕ) Refusal) → Stands raw at l → with_rest l rest ≡ bytes bs → drop at raw ≡ expanded bs
   unfolding expanded
-  by_byte rest rec (Byte b next) s w =
+  by_byte rest rec (Ok (b, next)) s w =
       let two = before_bytes b (rest next) bs w in
       s.2 ∙ ap (λ (l : List ℕ). escaped b ++ l) (rec next (drop 1 bs) s.0 two.0) ∙ ap expanded (sym two.1)
-  by_byte rest rec (Refused why) s w = let z : ◌≡◌ {A = ℕ} 0 1 = cc in let f : ⊥ = omega arith in absurd f
+  by_byte rest rec (Err why) s w = let z : ◌≡◌ {A = ℕ} 0 1 = cc in let f : ⊥ = omega arith in absurd f
 
 accepted_from : (raw : List ℕ) (m at : ℕ) (bs : List ℕ) → length raw ≤ at + m → undone_from raw m at ≡ bytes bs → drop at raw ≡ expanded bs
 unfolding undone_from

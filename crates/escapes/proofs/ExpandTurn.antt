@@ -1,6 +1,6 @@
 -- One turn of the loop that writes logical bytes as they go on the wire: what it stores, and that there is room.
 -- Assumes nothing.
-use mathlib.Core.Path.{◌≡◌, sym, ap, ◌∙◌}
+use mathlib.Core.Path.{◌≡◌, sym, ap, ◌∙◌, subst}
 use mathlib.Core.List.{List, ◌∷◌}
 use mathlib.Core.Logic.{◌⊎◌}
 use Prim.Native.Nat.{ℕ, ◌+◌, ◌-◌, ◌≤◌, ◌<◌}
@@ -9,7 +9,7 @@ use lib.ListN.{length, get_or, take, drop, set}
 use Rattle.lists.specs.Starting.{starting}
 use Rattle.lists.proofs.Filling.{head_within, rest_is, fill_within, fill_next}
 use Rattle.escapes.specs.Escape.{esc, syn, expanded}
-use Rattle.escapes.proofs.Escaped.{expanded_plain, expanded_special}
+use Rattle.escapes.proofs.Escaped.{special, expanded_plain, expanded_special}
 
 -- the output starts with the first n raw bytes, and the others are those of the logical bytes from i on
 pub record Filled (logical old out : List ℕ) (n i : ℕ) : Type 0 where
@@ -65,3 +65,12 @@ module _ (logical old out : List ℕ) (n i : ℕ)
               output = fill_next wire old (set out n esc) (n + 1) second then room one behind ∙ ap (λ (k : ℕ). starting (take k wire) old) two;
             };
       }
+
+  -- .. which it is by its place from A9 to AA
+  pub two : esc ≤ get_or logical i 0 → get_or logical i 0 ≤ syn → StoredTwo
+  two low high = stored_two (special (get_or logical i 0) low high)
+
+-- the same, where what a turn leaves is known by equations
+pub filled_as : (logical old : List ℕ) {out out' : List ℕ} {n n' : ℕ} (i : ℕ) → out ≡ out' → n ≡ n' → Filled logical old out' n' i → Filled logical old out n i
+filled_as logical old {out} {out'} {n} {n'} i out_is n_is f =
+    subst (λ (o : List ℕ). Filled logical old o n i) (sym out_is) (subst (λ (k : ℕ). Filled logical old out' k i) (sym n_is) f)

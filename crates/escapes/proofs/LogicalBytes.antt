@@ -1,37 +1,35 @@
 -- Laws of reading logical bytes one after another.
 -- Assumes nothing.
+use Rattle.std.specs.Prelude.{Result, Ok, Err}
 use mathlib.Core.Path.{◌≡◌, refl, sym, ap, ap₂, ◌∙◌, subst}
 use mathlib.Core.List.{List, [], ◌∷◌, ◌++◌}
-use Prim.Native.Nat.{ℕ, zero, suc, ◌+◌, ◌-◌, ◌≤◌, ◌<◌}
+use mathlib.Core.Bool.{Bool, true, false}
+use Prim.Native.Nat.{ℕ, zero, suc, ◌+◌, ◌-◌, ◌≤◌, ◌<◌, min}
 use native.Mathlib.Omega.{arith}
-use lib.Dec.{eqb, ltb}
+use lib.Dec.{eqb, ltb, leb}
 use lib.ListN.{length, get_or, take, drop, set, length-drop}
 use lib.Seq.{length-take-le, take_all}
-use borrow.Author.Tests.{lt-ltb, le-ltb, ltb-true, eqb-true, eqb-false}
+use borrow.Author.Tests.{lt-ltb, le-ltb, ltb-true, leb-true, leb-false, eqb-true, eqb-false}
 use Rattle.lists.specs.Starting.{starting}
 use Rattle.lists.proofs.Cases.{pick_cases}
 use Rattle.lists.proofs.Filling.{drop_next, head_within, head_is, rest_is, written_on, first_more, length_starting}
 use Rattle.refusal.specs.Output.{Output, bytes, refused, written}
 use Rattle.refusal.specs.declared.Refusal.{Refusal}
-use Rattle.refusal.specs.declared.Written.{Written}
-use Rattle.refusal.specs.declared.Written.TheVariants.{Length, Refused as NotWritten}
 use Rattle.escapes.specs.Escape.{esc, syn, escaped}
 use Rattle.escapes.proofs.Escaped.{escaped_plain}
-use Rattle.escapes.specs.declared.Logical.{Logical}
-use Rattle.escapes.specs.declared.Logical.TheVariants.{Byte, Refused}
 use Rattle.escapes.specs.Logical.{escape_at, logical_at, and_then, logicals_at}
 use Rattle.escapes.specs.Undo.{before, with_rest, undone_from, undone}
 
 -- ---- what a logical byte says of the raw bytes: it takes at least one, none behind the end, and stands there escaped
 
-abbrev pub Stands : List ℕ → ℕ → Logical → Type 0
-Stands run at (Byte b next) = (at < next) × (next ≤ length run) × (drop at run ≡ escaped b ++ drop next run)
-Stands run at (Refused why) = Unit {0}
+abbrev pub Stands : List ℕ → ℕ → Result (ℕ × ℕ) Refusal → Type 0
+Stands run at (Ok (b, next)) = (at < next) × (next ≤ length run) × (drop at run ≡ escaped b ++ drop next run)
+Stands run at (Err why) = Unit {0}
 
 -- the same of the second half of an escape, with the A9 before it
-abbrev Follows : List ℕ → ℕ → Logical → Type 0
-Follows run at (Byte b next) = (at < next) × (next ≤ length run) × (esc ∷ drop at run ≡ escaped b ++ drop next run)
-Follows run at (Refused why) = Unit {0}
+abbrev Follows : List ℕ → ℕ → Result (ℕ × ℕ) Refusal → Type 0
+Follows run at (Ok (b, next)) = (at < next) × (next ≤ length run) × (esc ∷ drop at run ≡ escaped b ++ drop next run)
+Follows run at (Err why) = Unit {0}
 
 escape_follows : (run : List ℕ) (at : ℕ) → Follows run at (escape_at run at)
 unfolding escape_at escaped
@@ -48,9 +46,9 @@ escape_follows run at =
     (λ _. pick_cases F (eqb x syn) _ _ (λ _. tt) (λ _. tt))))
     (λ _. tt)
 
-whole_escape : (run : List ℕ) (at : ℕ) → drop at run ≡ esc ∷ drop (at + 1) run → (l : Logical) → Follows run (at + 1) l → Stands run at l
-whole_escape run at e (Byte b next) f = (omega arith, f.1, e ∙ f.2)
-whole_escape run at e (Refused why) f = tt
+whole_escape : (run : List ℕ) (at : ℕ) → drop at run ≡ esc ∷ drop (at + 1) run → (l : Result (ℕ × ℕ) Refusal) → Follows run (at + 1) l → Stands run at l
+whole_escape run at e (Ok (b, next)) f = (omega arith, f.1, e ∙ f.2)
+whole_escape run at e (Err why) f = tt
 
 pub logical_stands : (run : List ℕ) (at : ℕ) → Stands run at (logical_at run at)
 unfolding logical_at
@@ -71,7 +69,7 @@ logical_stands run at =
     (λ _. tt)
 
 -- a byte that was read
-pub stands : (run : List ℕ) (at b next : ℕ) → logical_at run at ≡ Byte b next → Stands run at (Byte b next)
+pub stands : (run : List ℕ) (at b next : ℕ) → logical_at run at ≡ Ok (b, next) → Stands run at (Ok (b, next))
 stands run at b next e = subst (Stands run at) e (logical_stands run at)
 
 -- ---- n logical bytes have been read: the input has n fewer to come
@@ -89,24 +87,24 @@ module _ (raw : List ℕ) (n at : ℕ) where
         let one : length raw - n ≡ suc (length raw - (n + 1)) = omega arith in
         ap (λ (m : ℕ). undone_from raw m at) one ∙ simp (lt-ltb _ _ more)
 
-    pub turn_byte : (b next : ℕ) → logical_at raw at ≡ Byte b next → undone_from raw (length raw - n) at ≡ before b (undone_from raw (length raw - (n + 1)) next)
-    turn_byte b next e = turn ∙ ap (λ (l : Logical). with_rest l (undone_from raw (length raw - (n + 1)))) e
+    pub turn_byte : (b next : ℕ) → logical_at raw at ≡ Ok (b, next) → undone_from raw (length raw - n) at ≡ before b (undone_from raw (length raw - (n + 1)) next)
+    turn_byte b next e = turn ∙ ap (λ (l : Result (ℕ × ℕ) Refusal). with_rest l (undone_from raw (length raw - (n + 1)))) e
 
-    pub turn_refused : (why : Refusal) → logical_at raw at ≡ Refused why → undone_from raw (length raw - n) at ≡ refused why
-    turn_refused why e = turn ∙ ap (λ (l : Logical). with_rest l (undone_from raw (length raw - (n + 1)))) e
+    pub turn_refused : (why : Refusal) → logical_at raw at ≡ Err why → undone_from raw (length raw - n) at ≡ refused why
+    turn_refused why e = turn ∙ ap (λ (l : Result (ℕ × ℕ) Refusal). with_rest l (undone_from raw (length raw - (n + 1)))) e
 
 -- ---- the written, with n bytes counted already
 
-abbrev pub counted : ℕ → Output → Written
-counted n (bytes bs) = Length (n + length bs)
-counted n (refused why) = NotWritten why
+abbrev pub counted : ℕ → Output → Result ℕ Refusal
+counted n (bytes bs) = Ok (n + length bs)
+counted n (refused why) = Err why
 
 pub counted_none : (o : Output) → counted 0 o ≡ written o
-counted_none (bytes bs) = ap Length (omega arith)
+counted_none (bytes bs) = ap Ok (omega arith)
 counted_none (refused why) = refl
 
 pub counted_one : (n b : ℕ) (o : Output) → counted n (before b o) ≡ counted (n + 1) o
-counted_one n b (bytes bs) = ap Length (omega arith)
+counted_one n b (bytes bs) = ap Ok (omega arith)
 counted_one n b (refused why) = refl
 
 -- ---- what an accepted input has behind its first byte
@@ -122,13 +120,13 @@ before_bytes b (refused why) l e = let z : ◌≡◌ {A = ℕ} 0 1 = cc in let f
 -- an accepted input's logical bytes are those from its start
 behind_byte : (raw : List ℕ) (rest : ℕ → Output) (m at : ℕ) (bs : List ℕ)
     → ((next : ℕ) (cs : List ℕ) → rest next ≡ bytes cs → logicals_at raw (length cs) next ≡ cs)
-    → (l : Logical) → logical_at raw at ≡ l → with_rest l rest ≡ bytes bs → logicals_at raw (length bs) at ≡ bs
+    → (l : Result (ℕ × ℕ) Refusal) → logical_at raw at ≡ l → with_rest l rest ≡ bytes bs → logicals_at raw (length bs) at ≡ bs
 unfolding logicals_at
-behind_byte raw rest m at bs then (Refused why) is e = let z : ◌≡◌ {A = ℕ} 0 1 = cc in let f : ⊥ = omega arith in absurd f
-behind_byte raw rest m at bs then (Byte b next) is e =
+behind_byte raw rest m at bs then (Err why) is e = let z : ◌≡◌ {A = ℕ} 0 1 = cc in let f : ⊥ = omega arith in absurd f
+behind_byte raw rest m at bs then (Ok (b, next)) is e =
     let parts = before_bytes b (rest next) bs e in
     ap (λ (l : List ℕ). logicals_at raw (length l) at) parts.1
-    ∙ ap (λ (l : Logical). and_then l (logicals_at raw (length (drop 1 bs)))) is
+    ∙ ap (λ (l : Result (ℕ × ℕ) Refusal). and_then l (logicals_at raw (length (drop 1 bs)))) is
     ∙ ap (λ (l : List ℕ). b ∷ l) (then next (drop 1 bs) parts.0)
     ∙ sym parts.1
 
@@ -146,17 +144,17 @@ undone_logicals raw bs e = from_there raw (length raw) 0 bs e
 
 -- one turn of the loop that puts them: what the next logical byte makes of those to come
 module _ (run : List ℕ) (n at : ℕ) (due : 0 < n) where
-  by_logical : (l : Logical) → logical_at run at ≡ l → logicals_at run n at ≡ and_then l (logicals_at run (n - 1))
+  by_logical : (l : Result (ℕ × ℕ) Refusal) → logical_at run at ≡ l → logicals_at run n at ≡ and_then l (logicals_at run (n - 1))
   unfolding logicals_at
   by_logical l e =
       let one : n ≡ suc (n - 1) = omega arith in
-      ap (λ (m : ℕ). logicals_at run m at) one ∙ ap (λ (x : Logical). and_then x (logicals_at run (n - 1))) e
+      ap (λ (m : ℕ). logicals_at run m at) one ∙ ap (λ (x : Result (ℕ × ℕ) Refusal). and_then x (logicals_at run (n - 1))) e
 
-  pub next_logical : (b next : ℕ) → logical_at run at ≡ Byte b next → logicals_at run n at ≡ b ∷ logicals_at run (n - 1) next
-  next_logical b next e = by_logical (Byte b next) e
+  pub next_logical : (b next : ℕ) → logical_at run at ≡ Ok (b, next) → logicals_at run n at ≡ b ∷ logicals_at run (n - 1) next
+  next_logical b next e = by_logical (Ok (b, next)) e
 
-  pub no_logical : (why : Refusal) → logical_at run at ≡ Refused why → logicals_at run n at ≡ []
-  no_logical why e = by_logical (Refused why) e
+  pub no_logical : (why : Refusal) → logical_at run at ≡ Err why → logicals_at run n at ≡ []
+  no_logical why e = by_logical (Err why) e
 
 pub none_due : (run : List ℕ) (n at : ℕ) → n ≤ 0 → logicals_at run n at ≡ []
 unfolding logicals_at
@@ -191,8 +189,16 @@ module _ (run old out : List ℕ) (n at i next : ℕ) (p : Putting run old out n
       let gone : length all ≤ i = omega (arith, length-drop i all, ap length (p.rest ∙ none)) in
       p.output ∙ ap (λ (l : List ℕ). starting l old) (take_all i all gone ∙ sym (take_all (length old) all (omega (arith, p.held))))
 
+  -- all turns are done
+  pub put_done : min n (length old) ≤ i → out ≡ starting (take (length old) (logicals_at run n at)) old
+  put_done done = by (leb n i) refl
+    where
+      by : (t : Bool) → leb n i ≡ t → out ≡ starting (take (length old) (logicals_at run n at)) old
+      by true e = put_over (none_due run (n - i) next (omega (arith, leb-true n i e)))
+      by false e = put_full (omega (arith, leb-false n i e, done))
+
   -- one more
-  pub put_next : i < n → i < length old → (b behind : ℕ) → logical_at run next ≡ Byte b behind → Putting run old (set out i b) n at (i + 1) behind
+  pub put_next : i < n → i < length old → (b behind : ℕ) → logical_at run next ≡ Ok (b, behind) → Putting run old (set out i b) n at (i + 1) behind
   put_next more room b behind e =
       let all = logicals_at run n at in
       let due : drop i all ≡ b ∷ logicals_at run (n - i - 1) behind = p.rest ∙ next_logical run (n - i) next (omega arith) b behind e in

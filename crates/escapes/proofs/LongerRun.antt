@@ -2,6 +2,7 @@
 -- number 3 by the run's own end. No other refusal has number 3. Here for logical bytes; what reads telegrams and exchanges
 -- carries it on.
 -- Assumes nothing.
+use Rattle.std.specs.Prelude.{Result, Ok, Err}
 use mathlib.Core.Path.{◌≡◌, refl, sym, ap, ◌∙◌, subst}
 use mathlib.Core.Bool.{Bool, true, false}
 use mathlib.Core.List.{List, ◌++◌}
@@ -16,8 +17,6 @@ use Rattle.lists.proofs.Cases.{pick_cases, le_or_lt}
 use Rattle.refusal.specs.Number.{run_ended, escape_wrong, syn_early, at_place}
 use Rattle.refusal.specs.declared.Refusal.{Refusal}
 use Rattle.escapes.specs.Escape.{esc, syn}
-use Rattle.escapes.specs.declared.Logical.{Logical}
-use Rattle.escapes.specs.declared.Logical.TheVariants.{Byte, Refused}
 use Rattle.escapes.specs.Logical.{run_over, escape_at, logical_at}
 
 -- ---- the claim, for any kind of answer
@@ -63,29 +62,29 @@ stays_byte Other run more at ended ended' f f' each =
 
 -- ---- a logical byte
 
-abbrev pub OtherByte : Logical → Type 0
-OtherByte (Byte b next) = Unit {0}
-OtherByte (Refused why) = OtherRefusal why
+abbrev pub OtherByte : Result (ℕ × ℕ) Refusal → Type 0
+OtherByte (Ok (b, next)) = Unit {0}
+OtherByte (Err why) = OtherRefusal why
 
 module _ (run more : List ℕ) where
-  escape_stays : (at : ℕ) → Stays OtherByte (Refused (run_over run)) (escape_at run at) (escape_at (run ++ more) at)
+  escape_stays : (at : ℕ) → Stays OtherByte (Err (run_over run)) (escape_at run at) (escape_at (run ++ more) at)
   unfolding escape_at
   escape_stays at =
-      let f : ℕ → Logical =
-      λ b. pick (eqb b 0x00) (Byte esc (at + 1)) (pick (eqb b 0x01) (Byte syn (at + 1)) (pick (eqb b syn) (Refused (at_place syn_early at)) (Refused (at_place escape_wrong at)))) in
-      stays_byte OtherByte run more at (Refused (run_over run)) (Refused (run_over (run ++ more))) f f
+      let f : ℕ → Result (ℕ × ℕ) Refusal =
+      λ b. pick (eqb b 0x00) (Ok (esc, (at + 1))) (pick (eqb b 0x01) (Ok (syn, (at + 1))) (pick (eqb b syn) (Err (at_place syn_early at)) (Err (at_place escape_wrong at)))) in
+      stays_byte OtherByte run more at (Err (run_over run)) (Err (run_over (run ++ more))) f f
       (λ b.
-      stays_same OtherByte (Refused (run_over run)) (f b)
+      stays_same OtherByte (Err (run_over run)) (f b)
       (pick_cases OtherByte (eqb b 0x00) _ _ (λ _. tt)
       (λ _. pick_cases OtherByte (eqb b 0x01) _ _ (λ _. tt)
       (λ _. pick_cases OtherByte (eqb b syn) _ _ (λ _ e. omega arith) (λ _ e. omega arith)))))
 
-  pub logical_stays : (at : ℕ) → Stays OtherByte (Refused (run_over run)) (logical_at run at) (logical_at (run ++ more) at)
+  pub logical_stays : (at : ℕ) → Stays OtherByte (Err (run_over run)) (logical_at run at) (logical_at (run ++ more) at)
   unfolding logical_at
   logical_stays at =
-      let plain : ℕ → Logical = λ b. pick (eqb b syn) (Refused (at_place syn_early at)) (Byte b (at + 1)) in
-      stays_byte OtherByte run more at (Refused (run_over run)) (Refused (run_over (run ++ more)))
+      let plain : ℕ → Result (ℕ × ℕ) Refusal = λ b. pick (eqb b syn) (Err (at_place syn_early at)) (Ok (b, (at + 1))) in
+      stays_byte OtherByte run more at (Err (run_over run)) (Err (run_over (run ++ more)))
       (λ b. pick (eqb b esc) (escape_at run (at + 1)) (plain b)) (λ b. pick (eqb b esc) (escape_at (run ++ more) (at + 1)) (plain b))
       (λ b.
-      stays_pick OtherByte (Refused (run_over run)) _ _ (plain b) (plain b) (eqb b esc) (escape_stays (at + 1))
-      (stays_same OtherByte (Refused (run_over run)) (plain b) (pick_cases OtherByte (eqb b syn) _ _ (λ _ e. omega arith) (λ _. tt))))
+      stays_pick OtherByte (Err (run_over run)) _ _ (plain b) (plain b) (eqb b esc) (escape_stays (at + 1))
+      (stays_same OtherByte (Err (run_over run)) (plain b) (pick_cases OtherByte (eqb b syn) _ _ (λ _ e. omega arith) (λ _. tt))))

@@ -1,6 +1,7 @@
 -- Bytes in front: what is read behind some other bytes is what is read without them, with every position so much later. Here
 -- for logical bytes; what reads telegrams and attempts carries it on.
 -- Assumes nothing.
+use Rattle.std.specs.Prelude.{Result, Ok, Err}
 use mathlib.Core.Path.{◌≡◌, refl, sym, ap, ◌∙◌}
 use mathlib.Core.Bool.{Bool, true, false}
 use mathlib.Core.List.{List, ◌++◌}
@@ -16,17 +17,15 @@ use Rattle.lists.proofs.Cases.{le_or_lt}
 use Rattle.refusal.specs.Number.{run_ended, escape_wrong, syn_early, at_place}
 use Rattle.refusal.specs.declared.Refusal.{Refusal}
 use Rattle.escapes.specs.Escape.{esc, syn}
-use Rattle.escapes.specs.declared.Logical.{Logical}
-use Rattle.escapes.specs.declared.Logical.TheVariants.{Byte, Refused}
 use Rattle.escapes.specs.Logical.{run_over, escape_at, logical_at}
 
 -- a refusal k positions later
 abbrev pub later_refusal : ℕ → Refusal → Refusal
 later_refusal k why = at_place why.number (k + why.place)
 
-abbrev pub later_byte : ℕ → Logical → Logical
-later_byte k (Byte b next) = Byte b (k + next)
-later_byte k (Refused why) = Refused (later_refusal k why)
+abbrev pub later_byte : ℕ → Result (ℕ × ℕ) Refusal → Result (ℕ × ℕ) Refusal
+later_byte k (Ok (b, next)) = Ok (b, (k + next))
+later_byte k (Err why) = Err (later_refusal k why)
 
 -- a choice that is moved is the choice of what is moved
 pub later_pick : {A : Type 0} (move : A → A) (t : Bool) {x y x' y' : A} → x' ≡ move x → y' ≡ move y → pick t x' y' ≡ move (pick t x y)
@@ -53,24 +52,24 @@ module _ (before run : List ℕ) where
   unfolding escape_at
   later_half at =
       let k = length before in
-      let f : ℕ → ℕ → Logical =
-      λ at b. pick (eqb b 0x00) (Byte esc (at + 1)) (pick (eqb b 0x01) (Byte syn (at + 1)) (pick (eqb b syn) (Refused (at_place syn_early at)) (Refused (at_place escape_wrong at)))) in
+      let f : ℕ → ℕ → Result (ℕ × ℕ) Refusal =
+      λ at b. pick (eqb b 0x00) (Ok (esc, (at + 1))) (pick (eqb b 0x01) (Ok (syn, (at + 1))) (pick (eqb b syn) (Err (at_place syn_early at)) (Err (at_place escape_wrong at)))) in
       let move = later_byte k in
       later_byte_lem move before run at (f at) (f (k + at))
       (λ b.
-      later_pick move (eqb b 0x00) (ap (Byte esc) (omega arith))
-      (later_pick move (eqb b 0x01) (ap (Byte syn) (omega arith)) (later_pick move (eqb b syn) refl refl)))
-      (ap Refused (later_over before run))
+      later_pick move (eqb b 0x00) (ap (λ (x : ℕ). Ok (esc, x)) (omega arith))
+      (later_pick move (eqb b 0x01) (ap (λ (x : ℕ). Ok (syn, x)) (omega arith)) (later_pick move (eqb b syn) refl refl)))
+      (ap Err (later_over before run))
 
   pub later_logical : (at : ℕ) → logical_at (before ++ run) (length before + at) ≡ later_byte (length before) (logical_at run at)
   unfolding logical_at
   later_logical at =
       let k = length before in
-      let f : List ℕ → ℕ → ℕ → Logical =
-      λ r at b. pick (eqb b esc) (escape_at r (at + 1)) (pick (eqb b syn) (Refused (at_place syn_early at)) (Byte b (at + 1))) in
+      let f : List ℕ → ℕ → ℕ → Result (ℕ × ℕ) Refusal =
+      λ r at b. pick (eqb b esc) (escape_at r (at + 1)) (pick (eqb b syn) (Err (at_place syn_early at)) (Ok (b, (at + 1)))) in
       let move = later_byte k in
       later_byte_lem move before run at (f run at) (f (before ++ run) (k + at))
       (λ b.
       later_pick move (eqb b esc) (ap (escape_at (before ++ run)) (omega arith) ∙ later_half (at + 1))
-      (later_pick move (eqb b syn) refl (ap (Byte b) (omega arith))))
-      (ap Refused (later_over before run))
+      (later_pick move (eqb b syn) refl (ap (λ (x : ℕ). Ok (b, x)) (omega arith))))
+      (ap Err (later_over before run))

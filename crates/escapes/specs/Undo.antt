@@ -1,10 +1,9 @@
 -- Rule E5: undoing the escapes of a whole input, or the first 3, 4 or 5 in it.
 -- Assumes nothing.
-use Rattle.std.specs.Prelude.{ℕ, zero, suc, List, [], ◌∷◌, ltb, length}
+use Rattle.refusal.specs.declared.Refusal.{Refusal}
+use Rattle.std.specs.Prelude.{ℕ, zero, suc, List, [], ◌∷◌, ltb, length, Result, Ok, Err}
 use Rattle.lists.specs.Choice.{pick}
 use Rattle.refusal.specs.Output.{Output, bytes, refused}
-use Rattle.escapes.specs.declared.Logical.{Logical}
-use Rattle.escapes.specs.declared.Logical.TheVariants.{Byte, Refused}
 use Rattle.escapes.specs.Logical.{logical_at}
 
 -- one byte more in front of what the rest gives
@@ -13,9 +12,9 @@ before b (bytes bs) = bytes (b ∷ bs)
 before b (refused why) = refused why
 
 -- a logical byte, and then what the rest gives from the position behind it
-abbrev pub with_rest : Logical → (ℕ → Output) → Output
-with_rest (Byte b next) rest = before b (rest next)
-with_rest (Refused why) rest = refused why
+abbrev pub with_rest : Result (ℕ × ℕ) Refusal → (ℕ → Output) → Output
+with_rest (Ok (b, next)) rest = before b (rest next)
+with_rest (Err why) rest = refused why
 
 -- from a position on, with at most n logical bytes to come
 unfoldable pub undone_from : List ℕ → ℕ → ℕ → Output

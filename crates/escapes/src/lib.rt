@@ -8,95 +8,63 @@
 ghost use Rattle.std.specs.Prelude.{◌≡◌, ◌+◌, ◌≤◌, length, take};
 ghost use mathlib.Mathlib.Logic.Function.Defs.{id};
 ghost use Rattle.lists.specs.Starting.{starting};
-ghost use Rattle.refusal.specs.Number.{output_short, at_place};
 ghost use Rattle.refusal.specs.Output.{bytes, fitting, Wrote, written};
 ghost use Rattle.escapes.specs.Escape.{expanded};
 ghost use Rattle.escapes.specs.Logical.{escape_at, logical_at, logicals_at};
 ghost use Rattle.escapes.specs.Undo.{undone};
 
-use refusal::{ESCAPE_WRONG, OUTPUT_SHORT, RUN_ENDED, Refusal, SYN_EARLY, Written};
+use refusal::{ESCAPE_WRONG, OUTPUT_SHORT, RUN_ENDED, Refusal, SYN_EARLY, refused};
 
 // The byte that begins an escape, and SYN, which is never escaped.
 pub const ESC: u8 = 0xA9;
 
 pub const SYN: u8 = 0xAA;
 
-// A logical byte with the position behind it, or why there is none.
-#[derive(Clone, Copy)]
-pub enum Logical {
-    Byte(u8, usize),
-    Refused(Refusal),
-}
-
-// No logical byte, for this reason.
-fn no_byte(number: u8, place: usize) -> Logical
-    ensures { result ≡ Logical.Refused (at_place number place) }
-{
-    Logical::Refused(Refusal { number, place })
-}
-
 // The second half of an escape, at its own place. It is added to A9, since nobody can foretell which
 // of the two it is, and a branch between them would be guessed wrong.
-fn escape_at(run: &[u8], second: usize) -> Logical
+fn escape_at(run: &[u8], second: usize) -> Result<(u8, usize), Refusal>
     ensures { result ≡ escape_at run.now second }
 {
     if run.len() <= second {
-        return no_byte(RUN_ENDED, run.len());
+        return refused(RUN_ENDED, run.len());
     }
     let half = run[second];
     if half <= 1 {
-        return Logical::Byte(ESC + half, second + 1);
+        return Ok((ESC + half, second + 1));
     }
     if half == SYN {
-        return no_byte(SYN_EARLY, second);
+        return refused(SYN_EARLY, second);
     }
-    no_byte(ESCAPE_WRONG, second)
+    refused(ESCAPE_WRONG, second)
 }
 
 // The logical byte at a position of the run, or 3, 4 or 5 as met (rule E4).
-pub fn logical_at(run: &[u8], at: usize) -> Logical
+pub fn logical_at(run: &[u8], at: usize) -> Result<(u8, usize), Refusal>
     ensures { result ≡ logical_at run.now at }
 {
     let end = run.len();
     if end <= at {
-        return no_byte(RUN_ENDED, end);
+        return refused(RUN_ENDED, end);
     }
     match run[at] {
         ESC => escape_at(run, at + 1),
-        SYN => no_byte(SYN_EARLY, at),
-        byte => Logical::Byte(byte, at + 1),
+        SYN => refused(SYN_EARLY, at),
+        byte => Ok((byte, at + 1)),
     }
 }
 
-// Number 1: a lent output is shorter than stated.
-fn too_short() -> Written
-    ensures { result ≡ Written.Refused (at_place output_short 0) }
-{
-    Written::Refused(Refusal {
-        number: OUTPUT_SHORT,
-        place: 0,
-    })
-}
-
 // How many logical bytes the raw input has, or the first refusal that is met in it.
-fn undone_length(raw: &[u8]) -> Written
+fn undone_length(raw: &[u8]) -> Result<usize, Refusal>
     ensures { result ≡ written (undone raw.now) }
 {
     let mut at = 0;
     let mut n = 0;
     while at < raw.len() {
-        let byte = logical_at(raw, at);
-        match byte {
-            Logical::Byte(_, next) => {
-                at = next;
-                n += 1;
-            }
-            Logical::Refused(why) => {
-                return Written::Refused(why);
-            }
-        }
+        let (_, next) = logical_at(raw, at)?;
+        at = next;
+        n += 1;
     }
-    Written::Length(n)
+    Ok(n)
 }
 
 // Puts n logical bytes from a position on at the start of a lent output: those before the first
@@ -105,35 +73,27 @@ pub fn put_logical(run: &[u8], at: usize, n: usize, out: &mut [u8])
     ensures { out.new ≡ starting (take (length out.old) (logicals_at run.now n at)) out.old }
 {
     let mut next = at;
-    let mut i = 0;
-    while i < n {
-        if out.len() <= i {
-            return;
-        }
-        let Logical::Byte(value, behind) = logical_at(run, next) else {
+    for i in 0..n.min(out.len()) {
+        let Ok((value, behind)) = logical_at(run, next) else {
             return;
         };
         out[i] = value;
         next = behind;
-        i += 1;
     }
 }
 
 // Undoes the escapes of a raw input: 3, 4 or 5 as met, anywhere in the input, and only then 1 by
 // exact length. The output starts with the logical bytes and keeps the rest; on a refusal it is as
 // it was.
-pub fn undo(raw: &[u8], out: &mut [u8]) -> Written
+pub fn undo(raw: &[u8], out: &mut [u8]) -> Result<usize, Refusal>
     ensures { Wrote id (fitting (length out.old) (undone raw.now)) result out.old out.new }
 {
-    let counted = undone_length(raw);
-    let Written::Length(n) = counted else {
-        return counted;
-    };
+    let n = undone_length(raw)?;
     if out.len() < n {
-        return too_short();
+        return refused(OUTPUT_SHORT, 0);
     }
     put_logical(raw, 0, n, out);
-    Written::Length(n)
+    Ok(n)
 }
 
 // How many raw bytes the logical bytes take on the wire.
@@ -141,17 +101,10 @@ fn expanded_length(logical: &[u8]) -> usize
     ensures { result ≡ length (expanded logical.now) }
 {
     let mut n = 0;
-    let mut i = 0;
-    while i < logical.len() {
-        let byte = logical[i];
-        i += 1;
-        match byte {
-            ESC | SYN => {
-                n += 2;
-            }
-            _ => {
-                n += 1;
-            }
+    for byte in logical {
+        match *byte {
+            ESC | SYN => n += 2,
+            _ => n += 1,
         }
     }
     n
@@ -163,18 +116,15 @@ fn expand_into(logical: &[u8], out: &mut [u8])
     ensures { out.new ≡ starting (expanded logical.now) out.old }
 {
     let mut n = 0;
-    let mut i = 0;
-    while i < logical.len() {
-        let byte = logical[i];
-        i += 1;
-        match byte {
+    for byte in logical {
+        match *byte {
             ESC | SYN => {
                 out[n] = ESC;
-                out[n + 1] = byte - ESC;
+                out[n + 1] = *byte - ESC;
                 n += 2;
             }
             _ => {
-                out[n] = byte;
+                out[n] = *byte;
                 n += 1;
             }
         }
@@ -183,13 +133,13 @@ fn expand_into(logical: &[u8], out: &mut [u8])
 
 // Writes the logical bytes as they go on the wire. Refuses only with 1, by exact length. The output
 // starts with the raw bytes and keeps the rest; on a refusal it is as it was.
-pub fn expand(logical: &[u8], out: &mut [u8]) -> Written
+pub fn expand(logical: &[u8], out: &mut [u8]) -> Result<usize, Refusal>
     ensures { Wrote id (fitting (length out.old) (bytes (expanded logical.now))) result out.old out.new }
 {
     let length = expanded_length(logical);
     if out.len() < length {
-        return too_short();
+        return refused(OUTPUT_SHORT, 0);
     }
     expand_into(logical, out);
-    Written::Length(length)
+    Ok(length)
 }

@@ -8,11 +8,11 @@
 ghost use Rattle.std.specs.Prelude.{◌≡◌};
 ghost use Rattle.eventboundary.specs.ForC.{event_request_for_c, events_for_c, event_for_c, added_for_c, polled_for_c};
 
-use eventrequests::EventRequestRead;
-use events::EventRead;
-use newevents::Added;
+use eventrequests::EventRequest;
+use events::PlacedEvent;
 use packets::{EventsRead, NO_EVENTS, PACKET};
 use polls::Polled;
+use refusal::Refusal;
 
 // An event request that was read.
 #[repr(C)]
@@ -78,11 +78,11 @@ pub struct MoorPolled {
     pub skipped: usize,
 }
 
-pub fn event_request_for_c(x: EventRequestRead) -> MoorEventRequestRead
+pub fn event_request_for_c(x: Result<EventRequest, Refusal>) -> MoorEventRequestRead
     ensures { result ≡ event_request_for_c x }
 {
     match x {
-        EventRequestRead::Asked(request) => MoorEventRequestRead {
+        Ok(request) => MoorEventRequestRead {
             number: 0,
             minimum: request.minimum,
             most: request.most,
@@ -90,7 +90,7 @@ pub fn event_request_for_c(x: EventRequestRead) -> MoorEventRequestRead
             flag: request.flag,
             place: 0,
         },
-        EventRequestRead::Refused(why) => MoorEventRequestRead {
+        Err(why) => MoorEventRequestRead {
             number: why.number,
             minimum: 0,
             most: 0,
@@ -119,19 +119,21 @@ fn no_packet(number: u8, answer: u8, place: usize, skipped: usize) -> MoorEvents
     }
 }
 
-pub fn events_for_c(x: EventsRead) -> MoorEventsRead
+pub fn events_for_c(x: Result<EventsRead, Refusal>) -> MoorEventsRead
     ensures { result ≡ events_for_c x }
 {
     match x {
-        EventsRead::Packet {
-            skipped,
-            sender,
-            flag,
-            queued,
-            listed,
-            first,
-            size,
-        } => MoorEventsRead {
+        Ok(
+            EventsRead::Packet {
+                skipped,
+                sender,
+                flag,
+                queued,
+                listed,
+                first,
+                size,
+            },
+        ) => MoorEventsRead {
             number: 0,
             answer: PACKET,
             sender,
@@ -143,30 +145,24 @@ pub fn events_for_c(x: EventsRead) -> MoorEventsRead
             first,
             skipped,
         },
-        EventsRead::Nothing { skipped } => no_packet(0, NO_EVENTS, 0, skipped),
-        EventsRead::Refused(why) => no_packet(why.number, 0, why.place, 0),
+        Ok(EventsRead::Nothing { skipped }) => no_packet(0, NO_EVENTS, 0, skipped),
+        Err(why) => no_packet(why.number, 0, why.place, 0),
     }
 }
 
-pub fn event_for_c(x: EventRead) -> MoorEvent
+pub fn event_for_c(x: Option<PlacedEvent>) -> MoorEvent
     ensures { result ≡ event_for_c x }
 {
     match x {
-        EventRead::Whole {
-            kind,
-            identifier,
-            start,
-            size,
-            next,
-        } => MoorEvent {
+        Some(event) => MoorEvent {
             whole: 1,
-            kind,
-            size,
-            identifier,
-            start,
-            next,
+            kind: event.kind,
+            size: event.size,
+            identifier: event.identifier,
+            start: event.start,
+            next: event.next,
         },
-        EventRead::Broken => MoorEvent {
+        None => MoorEvent {
             whole: 0,
             kind: 0,
             size: 0,
@@ -177,15 +173,15 @@ pub fn event_for_c(x: EventRead) -> MoorEvent
     }
 }
 
-pub fn added_for_c(x: Added) -> MoorAdded
+pub fn added_for_c(x: Result<(), Refusal>) -> MoorAdded
     ensures { result ≡ added_for_c x }
 {
     match x {
-        Added::Done => MoorAdded {
+        Ok(()) => MoorAdded {
             number: 0,
             place: 0,
         },
-        Added::Refused(why) => MoorAdded {
+        Err(why) => MoorAdded {
             number: why.number,
             place: why.place,
         },
@@ -215,24 +211,28 @@ fn answered(
     }
 }
 
-pub fn polled_for_c(x: Polled) -> MoorPolled
+pub fn polled_for_c(x: Result<Polled, Refusal>) -> MoorPolled
     ensures { result ≡ polled_for_c x }
 {
     match x {
-        Polled::Packet {
-            skipped,
-            length,
-            sender,
-            flag,
-            events,
-        } => answered(skipped, length, PACKET, sender, flag, events),
-        Polled::Nothing {
-            skipped,
-            length,
-            sender,
-        } => answered(skipped, length, NO_EVENTS, sender, 0, 0),
-        Polled::Silent => answered(0, 0, 0, 0, 0, 0),
-        Polled::Refused(why) => MoorPolled {
+        Ok(
+            Polled::Packet {
+                skipped,
+                length,
+                sender,
+                flag,
+                events,
+            },
+        ) => answered(skipped, length, PACKET, sender, flag, events),
+        Ok(
+            Polled::Nothing {
+                skipped,
+                length,
+                sender,
+            },
+        ) => answered(skipped, length, NO_EVENTS, sender, 0, 0),
+        Ok(Polled::Silent) => answered(0, 0, 0, 0, 0, 0),
+        Err(why) => MoorPolled {
             number: why.number,
             answer: 0,
             sender: 0,

@@ -1,9 +1,8 @@
 // The event queues of the devices for C, and polls.
 #![tactic(auto)]
 
-ghost use Rattle.std.specs.Prelude.{◌≡◌};
+ghost use Rattle.std.specs.Prelude.{◌≡◌, Ok};
 ghost use Rattle.table.specs.Table.{columns};
-ghost use Rattle.eventrequests.specs.declared.EventRequestRead.TheVariants.{Asked};
 ghost use Rattle.queues.specs.Queues.{queue_columns, valid_queues};
 ghost use Rattle.newevents.specs.Event.{Adds, event, add_call};
 ghost use Rattle.polls.specs.Calls.{GivesPoll, poll_call, offer_poll_call};
@@ -80,7 +79,7 @@ pub extern "C" fn moor_poll(
     slots: &mut [u8],
     answer: &mut [u8],
 ) -> MoorPolled
-    ensures { GivesPoll polled_for_c (poll_call (Asked (record { minimum = minimum; most = most; confirmed = confirmed; flag = flag })) answer.old (columns serials.now addresses.now marks.now) (queue_columns flags.old lasts.old counts.old slots.old)) result answer.new flags.new lasts.new counts.new slots.new }
+    ensures { GivesPoll polled_for_c (poll_call (Ok (record { minimum = minimum; most = most; confirmed = confirmed; flag = flag })) answer.old (columns serials.now addresses.now marks.now) (queue_columns flags.old lasts.old counts.old slots.old)) result answer.new flags.new lasts.new counts.new slots.new }
 {
     let request = EventRequest {
         minimum,

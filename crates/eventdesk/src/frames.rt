@@ -1,21 +1,19 @@
 // The frames of event polling, read and written.
 use crate::polling;
-use crate::polling::RequestRead;
 use crate::showing::say_event;
 use desk::expected::refused_frame;
 use desk::part::lent;
 use desk::say::{Page, three};
 use desk::state::{Desk, FILL, FULL};
+use desk::texts::Text;
 use desk::{say, texts};
-use eventrequests::{EventRequest, EventRequestRead};
-use events::EventRead;
+use eventrequests::EventRequest;
 use packets::EventsRead;
 
 pub(crate) fn read_poll(rt: &impl Print, input: &[u8], page: Page) -> Page {
-    let read = eventrequests::read_event_request(input);
-    match read {
-        EventRequestRead::Asked(request) => say_request(rt, request, page),
-        EventRequestRead::Refused(why) => refused_frame(rt, page, why, input),
+    match eventrequests::read_event_request(input) {
+        Ok(request) => say_request(rt, request, page),
+        Err(why) => refused_frame(rt, page, why, input),
     }
 }
 
@@ -26,14 +24,13 @@ fn say_request(rt: &impl Print, request: EventRequest, page: Page) -> Page {
         request.confirmed,
         request.flag,
     ];
-    say::named(rt, page, texts::POLL, &bytes)
+    say::named(rt, page, Text::Poll, &bytes)
 }
 
 pub(crate) fn write_poll(rt: &impl Print, line: &[u8], at: usize, d: Desk) -> Desk {
-    let read = polling::read_request(line, at);
-    match read {
-        RequestRead::Wrong(why) => d.wrong(rt, why),
-        RequestRead::Request(request) => d.with_page(write_request(rt, request, d.room, d.page)),
+    match polling::request_at(line, at) {
+        Ok(request) => d.with_page(write_request(rt, request, d.room, d.page)),
+        Err(why) => d.wrong(rt, why),
     }
 }
 
@@ -51,25 +48,26 @@ pub(crate) fn write_no_events(rt: &impl Print, room: usize, page: Page) -> Page 
 
 // What comes back for a poll, and each event that it lists.
 pub(crate) fn read_events(rt: &impl Print, input: &[u8], page: Page) -> Page {
-    let read = packets::read_events(input);
-    match read {
-        EventsRead::Packet {
-            skipped,
-            sender,
-            flag,
-            queued,
-            listed,
-            first,
-            ..
-        } => {
+    match packets::read_events(input) {
+        Ok(
+            EventsRead::Packet {
+                skipped,
+                sender,
+                flag,
+                queued,
+                listed,
+                first,
+                ..
+            },
+        ) => {
             let numbers = three(sender as u64, flag as u64, queued as u64);
-            let head = texts::text(rt, page, texts::EVENTS, numbers);
+            let head = texts::filled(rt, page, Text::Events, numbers);
             say_listed(rt, listed, input, first, say::skipped(rt, head, skipped))
         }
-        EventsRead::Nothing { skipped } => {
-            say::skipped(rt, texts::plain(rt, page, texts::NO_EVENTS), skipped)
+        Ok(EventsRead::Nothing { skipped }) => {
+            say::skipped(rt, texts::plain(rt, page, Text::NoEvents), skipped)
         }
-        EventsRead::Refused(why) => refused_frame(rt, page, why, input),
+        Err(why) => refused_frame(rt, page, why, input),
     }
 }
 
@@ -78,7 +76,7 @@ fn say_listed(rt: &impl Print, n: usize, input: &[u8], first: usize, page: Page)
     let mut p = page;
     let mut at = first;
     for _ in 0..n {
-        p = say_event(rt, texts::EVENT_LISTED, input, at, p);
+        p = say_event(rt, Text::EventListed, input, at, p);
         at = behind(input, at);
     }
     p
@@ -86,9 +84,5 @@ fn say_listed(rt: &impl Print, n: usize, input: &[u8], first: usize, page: Page)
 
 // The position behind an event.
 fn behind(input: &[u8], at: usize) -> usize {
-    let event = events::event_at(input, at);
-    match event {
-        EventRead::Whole { next, .. } => next,
-        EventRead::Broken => at,
-    }
+    events::event_at(input, at).map_or(at, |event| event.next)
 }

@@ -1,39 +1,31 @@
 // Polls of the tool's devices. Each call of the library is lent the rows that the table has.
 use desk::expected::refused_frame;
 use desk::fault::Fault;
-use desk::number::{FourRead, last_four};
-use desk::part::{column, lent, serials_of, slots_length, start_of};
+use desk::number::last_four;
+use desk::part::{lent, slots_length, start_of};
 use desk::say::{Page, one};
 use desk::state::{Desk, FILL, FULL, Queues, Table};
+use desk::texts::Text;
 use desk::{say, texts};
 use eventrequests::EventRequest;
 use polls::Polled;
+use refusal::Refusal;
 
-// A request as a line has it.
-#[derive(Clone, Copy)]
-pub(crate) enum RequestRead {
-    Request(EventRequest),
-    Wrong(Fault),
-}
-
-pub(crate) fn read_request(line: &[u8], at: usize) -> RequestRead {
-    let read = last_four(line, at, true);
-    match read {
-        FourRead::Wrong(why) => RequestRead::Wrong(why),
-        FourRead::Bytes(four, _) => RequestRead::Request(EventRequest {
-            minimum: four.first,
-            most: four.second,
-            confirmed: four.third,
-            flag: four.fourth,
-        }),
-    }
+// The request that the rest of a line is.
+pub(crate) fn request_at(line: &[u8], at: usize) -> Result<EventRequest, Fault> {
+    let four = last_four(line, at, true)?;
+    Ok(EventRequest {
+        minimum: four.first,
+        most: four.second,
+        confirmed: four.third,
+        flag: four.fourth,
+    })
 }
 
 pub(crate) fn poll(rt: &impl Print, line: &[u8], at: usize, d: Desk) -> Desk {
-    let read = read_request(line, at);
-    match read {
-        RequestRead::Wrong(why) => d.wrong(rt, why),
-        RequestRead::Request(request) => ask(rt, Asked::Poll(request), b"", d),
+    match request_at(line, at) {
+        Ok(request) => ask(rt, Asked::Poll(request), b"", d),
+        Err(why) => d.wrong(rt, why),
     }
 }
 
@@ -58,7 +50,7 @@ pub(crate) fn ask(rt: &impl Print, asked: Asked, frame: &[u8], d: Desk) -> Desk 
 #[derive(Clone, Copy)]
 struct After {
     queues: Queues,
-    polled: Polled,
+    polled: Result<Polled, Refusal>,
 }
 
 fn asking(asked: Asked, frame: &[u8], table: Table, queues: Queues, answer: &mut [u8]) -> After {
@@ -98,14 +90,14 @@ fn response(
     counts: &mut [u8],
     slots: &mut [u8],
     answer: &mut [u8],
-) -> Polled {
+) -> Result<Polled, Refusal> {
     let rows = table.rows;
     let serials = table.serials;
     let addresses = table.addresses;
     let marks = table.marks;
-    let s = serials_of(&serials, rows);
-    let a = column(&addresses, rows);
-    let m = column(&marks, rows);
+    let s = start_of(&serials, rows);
+    let a = start_of(&addresses, rows);
+    let m = start_of(&marks, rows);
     match asked {
         Asked::Poll(request) => {
             polls::poll(request, s, a, m, flags, lasts, counts, slots, answer)
@@ -114,25 +106,35 @@ fn response(
     }
 }
 
-fn say_polled(rt: &impl Print, polled: Polled, frame: &[u8], answer: &[u8], page: Page) -> Page {
+fn say_polled(
+    rt: &impl Print,
+    polled: Result<Polled, Refusal>,
+    frame: &[u8],
+    answer: &[u8],
+    page: Page,
+) -> Page {
     match polled {
-        Polled::Packet {
-            skipped,
-            length,
-            ..
-        } => say_answer(rt, skipped, start_of(answer, length), page),
-        Polled::Nothing {
-            skipped,
-            length,
-            ..
-        } => say_answer(rt, skipped, start_of(answer, length), page),
-        Polled::Silent => texts::plain(rt, page, texts::SILENCE),
-        Polled::Refused(why) => refused_frame(rt, page, why, frame),
+        Ok(
+            Polled::Packet {
+                skipped,
+                length,
+                ..
+            },
+        ) => say_answer(rt, skipped, start_of(answer, length), page),
+        Ok(
+            Polled::Nothing {
+                skipped,
+                length,
+                ..
+            },
+        ) => say_answer(rt, skipped, start_of(answer, length), page),
+        Ok(Polled::Silent) => texts::plain(rt, page, Text::Silence),
+        Err(why) => refused_frame(rt, page, why, frame),
     }
 }
 
 // An answer, and below it how many FF it begins with.
 fn say_answer(rt: &impl Print, skipped: usize, answer: &[u8], page: Page) -> Page {
-    let said = say::named(rt, page, texts::ANSWER, answer);
-    texts::text(rt, said, texts::SKIPPED_BELOW, one(skipped as u64))
+    let said = say::named(rt, page, Text::Answer, answer);
+    texts::filled(rt, said, Text::SkippedBelow, one(skipped as u64))
 }

@@ -1,14 +1,13 @@
 // What puts events into the tool's queues, and what sets a row of them as it stands.
 ghost use Rattle.std.specs.Prelude.{◌≤◌};
 
-use desk::fault::{Fault, MISSING, NO_ROW, NOT_URGENCY, fault_at};
-use desk::hex::BytesRead;
-use desk::number::{Four, FourRead, NumberRead, digits, fault_of, last_four, one_byte};
-use desk::part::{column, lent, serials_of, slots_length, start_of};
+use desk::fault::{Fault, Wrong};
+use desk::number::{Four, four_digits, last_four, one_byte};
+use desk::part::{lent, slots_length, start_of};
 use desk::state::{Desk, Queues, Table};
 use desk::{hex, say, word};
-use newevents::Added;
 use queues::{MOST_QUEUED, SLOT_LENGTH, SLOTS_LENGTH};
+use refusal::Refusal;
 
 // ---- a new event
 
@@ -21,68 +20,43 @@ struct Head {
     identifier: u16,
 }
 
-// A head, and where the data begins, or what was wrong.
-#[derive(Clone, Copy)]
-enum HeadRead {
-    Head(Head, usize),
-    Wrong(Fault),
+// Whether the next word from `at` on is urgent, or normal.
+fn urgency(line: &[u8], at: usize) -> Result<(bool, usize), Fault> {
+    let w = word::due(line, at)?;
+    match word::part(line, w.from, w.to) {
+        b"normal" => Ok((false, w.to)),
+        b"urgent" => Ok((true, w.to)),
+        _ => Err(Wrong::NotUrgency.at(w.from)),
+    }
 }
 
-// The next word from `at` on, which is normal, 0, or urgent, 1.
-fn urgency(line: &[u8], at: usize) -> NumberRead {
-    let w = word::next(line, at);
-    let from = w.from;
-    let to = w.to;
-    if from == to {
-        return NumberRead::Wrong(fault_at(MISSING, from));
-    }
-    let urgent = word::place(b"normal urgent", word::part(line, from, to));
-    if 1 < urgent {
-        return NumberRead::Wrong(fault_at(NOT_URGENCY, from));
-    }
-    NumberRead::Number(urgent as u64, to)
-}
-
-fn read_head(line: &[u8], at: usize) -> HeadRead {
-    let first = one_byte(line, at);
-    let NumberRead::Number(id, second_at) = first else {
-        return HeadRead::Wrong(fault_of(first));
-    };
-    let second = urgency(line, second_at);
-    let NumberRead::Number(urgent, third_at) = second else {
-        return HeadRead::Wrong(fault_of(second));
-    };
-    let third = one_byte(line, third_at);
-    let NumberRead::Number(kind, fourth_at) = third else {
-        return HeadRead::Wrong(fault_of(third));
-    };
-    let fourth = digits(line, fourth_at, 4);
-    let NumberRead::Number(identifier, data_at) = fourth else {
-        return HeadRead::Wrong(fault_of(fourth));
-    };
+// What is said before the data, and where that begins.
+fn head_at(line: &[u8], at: usize) -> Result<(Head, usize), Fault> {
+    let (id, urgent_at) = one_byte(line, at)?;
+    let (urgent, kind_at) = urgency(line, urgent_at)?;
+    let (kind, identifier_at) = one_byte(line, kind_at)?;
+    let (identifier, data_at) = four_digits(line, identifier_at)?;
     let head = Head {
-        id: (id % 256) as u8,
-        urgent: urgent == 1,
-        kind: (kind % 256) as u8,
-        identifier: (identifier % 65536) as u16,
+        id,
+        urgent,
+        kind,
+        identifier,
     };
-    HeadRead::Head(head, data_at)
+    Ok((head, data_at))
+}
+
+// .. and how many bytes the data has, which is put at the start of the output.
+fn event_at(line: &[u8], at: usize, out: &mut [u8]) -> Result<(Head, usize), Fault> {
+    let (head, data_at) = head_at(line, at)?;
+    let n = hex::bytes(line, data_at, out)?;
+    Ok((head, n))
 }
 
 pub(crate) fn event(rt: &impl Print, line: &[u8], at: usize, d: Desk) -> Desk {
-    let read = read_head(line, at);
-    match read {
-        HeadRead::Wrong(why) => d.wrong(rt, why),
-        HeadRead::Head(head, data_at) => event_behind(rt, head, line, data_at, d),
-    }
-}
-
-fn event_behind(rt: &impl Print, head: Head, line: &[u8], data_at: usize, d: Desk) -> Desk {
     let mut store = [0u8; hex::MOST];
-    let read = hex::bytes(line, data_at, &mut store);
-    match read {
-        BytesRead::Wrong(why) => d.wrong(rt, why),
-        BytesRead::Bytes(n) => add(rt, head, start_of(&store, n), d),
+    match event_at(line, at, &mut store) {
+        Ok((head, n)) => add(rt, head, start_of(&store, n), d),
+        Err(why) => d.wrong(rt, why),
     }
 }
 
@@ -99,7 +73,7 @@ fn add(rt: &impl Print, head: Head, data: &[u8], d: Desk) -> Desk {
 #[derive(Clone, Copy)]
 struct After {
     queues: Queues,
-    added: Added,
+    added: Result<(), Refusal>,
 }
 
 fn with_event(head: Head, data: &[u8], table: Table, queues: Queues) -> After {
@@ -130,7 +104,7 @@ fn put(
     queues: Queues,
     counts: &mut [u8],
     slots: &mut [u8],
-) -> Added {
+) -> Result<(), Refusal> {
     let rows = table.rows;
     let serials = table.serials;
     let addresses = table.addresses;
@@ -138,11 +112,11 @@ fn put(
     let flags = queues.flags;
     let lasts = queues.lasts;
     newevents::add_event(
-        serials_of(&serials, rows),
-        column(&addresses, rows),
-        column(&marks, rows),
-        column(&flags, rows),
-        column(&lasts, rows),
+        start_of(&serials, rows),
+        start_of(&addresses, rows),
+        start_of(&marks, rows),
+        start_of(&flags, rows),
+        start_of(&lasts, rows),
         counts,
         slots,
         head.id,
@@ -153,10 +127,10 @@ fn put(
     )
 }
 
-fn say_added(rt: &impl Print, added: Added, d: Desk) -> Desk {
+fn say_added(rt: &impl Print, added: Result<(), Refusal>, d: Desk) -> Desk {
     match added {
-        Added::Done => d.ok(rt),
-        Added::Refused(why) => d.with_page(say::refused(rt, d.page, why)),
+        Ok(()) => d.ok(rt),
+        Err(why) => d.with_page(say::refused(rt, d.page, why)),
     }
 }
 
@@ -164,17 +138,15 @@ fn say_added(rt: &impl Print, added: Added, d: Desk) -> Desk {
 
 // The row, its flag, its last packet and how many events are queued.
 pub(crate) fn stored(rt: &impl Print, line: &[u8], at: usize, d: Desk) -> Desk {
-    let read = last_four(line, at, false);
-    match read {
-        FourRead::Wrong(why) => d.wrong(rt, why),
-        FourRead::Bytes(four, _) => {
-            let table = d.table;
-            if table.rows <= four.first as usize {
+    match last_four(line, at, false) {
+        Ok(four) => {
+            if d.table.rows <= four.first as usize {
                 let w = word::next(line, at);
-                return d.wrong_at(rt, NO_ROW, w.from);
+                return d.wrong_at(rt, Wrong::NoRow, w.from);
             }
             d.with_queues(with_row(four, d.queues), d.page).ok(rt)
         }
+        Err(why) => d.wrong(rt, why),
     }
 }
 
@@ -203,16 +175,12 @@ fn with_row(four: Four, queues: Queues) -> Queues {
 fn queued_length(count: u8) -> usize
     ensures { result ≤ 104 }
 {
-    if MOST_QUEUED < count {
-        return SLOTS_LENGTH;
-    }
-    SLOT_LENGTH * count as usize
+    SLOT_LENGTH * count.min(MOST_QUEUED) as usize
 }
 
-// Makes n bytes from a position on 0, as many as a device has.
+// Makes n bytes from a position on 0.
 fn clear(slots: &mut [u8], from: usize, n: usize) {
-    let zeros = [0u8; SLOTS_LENGTH];
-    if from <= slots.len() {
-        lists::put(start_of(&zeros, n), &mut slots[from..]);
+    for byte in slots.iter_mut().skip(from).take(n) {
+        *byte = 0;
     }
 }

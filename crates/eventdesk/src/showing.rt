@@ -1,10 +1,11 @@
 // The queues of the devices, and events, shown.
 use crate::reasons;
-use desk::part::{column, serials_of, slots_at, slots_of};
+use crate::reasons::Rule;
+use desk::part::{slots_at, slots_length, start_of};
 use desk::say::{Page, one, three};
 use desk::state::{Desk, MOST_ROWS, Queues, Table};
+use desk::texts::Text;
 use desk::{say, texts};
-use events::EventRead;
 use lists::byte_at;
 use queues::{MOST_QUEUED, SLOT_LENGTH};
 
@@ -12,18 +13,18 @@ pub(crate) fn show(rt: &impl Print, d: Desk) -> Desk {
     let table = d.table;
     let rows = table.rows;
     let queues = d.queues;
-    let head = say_valid(rt, valid(table, queues), reasons::OF_QUEUES, d);
+    let head = say_valid(rt, valid(table, queues), &reasons::OF_QUEUES, d);
     d.with_page(say_queues(rt, rows, table, queues, head))
 }
 
-// Whether the devices are valid, and if not, why: the first of so many rules that fails.
-pub fn say_valid(rt: &impl Print, valid: bool, rules: u8, d: Desk) -> Page {
+// Whether the devices are valid, and if not, why: the first of these rules that fails.
+pub fn say_valid(rt: &impl Print, valid: bool, rules: &[Rule], d: Desk) -> Page {
     let rows = d.table.rows;
     if valid {
-        return texts::text(rt, d.page, texts::VALID, one(rows as u64));
+        return texts::filled(rt, d.page, Text::Valid, one(rows as u64));
     }
-    let head = texts::text(rt, d.page, texts::NOT_VALID, one(rows as u64));
-    reasons::say(rt, rules, d.table, d.queues, head)
+    let head = texts::filled(rt, d.page, Text::NotValid, one(rows as u64));
+    reasons::say(rt, rules, &d.table, &d.queues, head)
 }
 
 // Whether table and queues are valid.
@@ -37,13 +38,13 @@ fn valid(table: Table, queues: Queues) -> bool {
     let counts = queues.counts;
     let slots = queues.slots;
     queues::valid_queues(
-        serials_of(&serials, rows),
-        column(&addresses, rows),
-        column(&marks, rows),
-        column(&flags, rows),
-        column(&lasts, rows),
-        column(&counts, rows),
-        slots_of(&slots, rows),
+        start_of(&serials, rows),
+        start_of(&addresses, rows),
+        start_of(&marks, rows),
+        start_of(&flags, rows),
+        start_of(&lasts, rows),
+        start_of(&counts, rows),
+        start_of(&slots, slots_length(rows)),
     )
 }
 
@@ -68,9 +69,9 @@ fn say_queue(rt: &impl Print, i: usize, table: Table, queues: Queues, page: Page
 }
 
 fn say_row(rt: &impl Print, id: u8, flag: u8, last: u8, count: u8, page: Page) -> Page {
-    let a = texts::text(rt, page, texts::QUEUE_OF, one(id as u64));
+    let a = texts::filled(rt, page, Text::QueueOf, one(id as u64));
     let numbers = three(flag as u64, last as u64, count as u64);
-    texts::text(rt, a, texts::QUEUE, numbers)
+    texts::filled(rt, a, Text::Queue, numbers)
 }
 
 // The first n slots of a device; there are 8.
@@ -89,26 +90,20 @@ fn say_slot(rt: &impl Print, i: u8, slots: &[u8], page: Page) -> Page {
     }
     let at = SLOT_LENGTH * i as usize;
     let line = if byte_at(slots, at) == 0 {
-        texts::EVENT_NORMAL
+        Text::EventNormal
     } else {
-        texts::EVENT_URGENT
+        Text::EventUrgent
     };
     say_event(rt, line, slots, at + 1, page)
 }
 
 // A line with the event at a position. Where there is none, nothing is said.
-pub(crate) fn say_event(rt: &impl Print, line: u8, input: &[u8], at: usize, page: Page) -> Page {
-    let event = events::event_at(input, at);
-    match event {
-        EventRead::Whole {
-            kind,
-            identifier,
-            ..
-        } => {
-            let id = identifier as u64;
-            let said = texts::text(rt, page, line, three(kind as u64, id / 256, id));
-            say::ended(rt, said, events::event_data(input, at))
-        }
-        EventRead::Broken => page,
-    }
+pub(crate) fn say_event(rt: &impl Print, line: Text, input: &[u8], at: usize, page: Page) -> Page {
+    let Some(event) = events::event_at(input, at) else {
+        return page;
+    };
+    let id = event.identifier as u64;
+    let numbers = three(event.kind as u64, id / 256, id);
+    let said = texts::filled(rt, page, line, numbers);
+    say::ended(rt, said, events::event_data(input, at))
 }

@@ -1,5 +1,6 @@
 -- Each outcome of the reader, by what the head check found.
 -- Assumes nothing.
+use Rattle.std.specs.Prelude.{Ok, Err}
 use mathlib.Core.Path.{◌≡◌, refl, ap, ◌∙◌}
 use mathlib.Core.List.{List}
 use Prim.Native.Nat.{ℕ, ◌+◌, ◌<◌}
@@ -9,20 +10,18 @@ use Rattle.refusal.specs.declared.Refusal.{Refusal}
 use Rattle.framing.specs.Framing.{framed, framed_at}
 use Rattle.framing.specs.Layout.{poll_events, length_for}
 use Rattle.framing.specs.Head.{head_of}
-use Rattle.framing.specs.declared.Head.TheVariants.{Framed, Wrong}
 use Rattle.framing.proofs.Framing.{rest_length, carried_at}
 use Rattle.framing.proofs.HeadCheck.{head_framed_is, head_wrong_is}
 use Rattle.framing.proofs.ScanFrames.{scan_sound, scan_carries, taken_both}
 use Rattle.eventrequests.specs.Layout.{event_request_framing}
 use Rattle.eventrequests.specs.Reading.{requested_by, read_event_request}
-use Rattle.eventrequests.specs.declared.EventRequestRead.TheVariants.{Asked, Refused}
 
 module _ (input : List ℕ) where
-  pub request_refused : (why : Refusal) → head_of (framed_at event_request_framing input 0) ≡ Wrong why → read_event_request input ≡ Refused why
+  pub request_refused : (why : Refusal) → head_of (framed_at event_request_framing input 0) ≡ Err why → read_event_request input ≡ Err why
   unfolding read_event_request
   request_refused why head = ap requested_by (head_wrong_is (framed_at event_request_framing input 0) why head)
 
-  module _ {s : ℕ} (head : head_of (framed_at event_request_framing input 0) ≡ Framed s) where
+  module _ {s : ℕ} (head : head_of (framed_at event_request_framing input 0) ≡ Ok s) where
     abbrev first : List ℕ
     first = (head_framed_is (framed_at event_request_framing input 0) s head).0
 
@@ -47,7 +46,7 @@ module _ (input : List ℕ) where
         ∙ ap (λ (n : ℕ). get_or input n 0) (omega arith)
 
     pub request_asked : read_event_request input
-        ≡ Asked (record { minimum = get_or input 3 0; most = get_or input 4 0; confirmed = get_or input 5 0; flag = get_or input 6 0 })
+        ≡ Ok (record { minimum = get_or input 3 0; most = get_or input 4 0; confirmed = get_or input 5 0; flag = get_or input 6 0 })
     unfolding read_event_request
     request_asked =
         ap requested_by read

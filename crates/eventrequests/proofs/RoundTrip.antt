@@ -1,5 +1,6 @@
 -- Reading and writing the request of event polling are inverse to each other: the proof of `EventRequests`.
 -- Assumes nothing.
+use Rattle.std.specs.Prelude.{Ok}
 use mathlib.Core.Path.{◌≡◌, refl, ap, ap₂, ◌∙◌}
 use mathlib.Core.List.{List, [], ◌∷◌}
 use Prim.Native.Nat.{ℕ}
@@ -12,9 +13,8 @@ use Rattle.eventrequests.specs.Layout.{event_request_framing, event_request_byte
 use Rattle.eventrequests.specs.Reading.{request_of, requested_by, read_event_request}
 use Rattle.eventrequests.specs.RoundTrip.{EventRequests}
 use Rattle.eventrequests.specs.declared.EventRequest.{EventRequest}
-use Rattle.eventrequests.specs.declared.EventRequestRead.TheVariants.{Asked}
 
-request_back : (request : EventRequest) → read_event_request (event_request_frame request) ≡ Asked request
+request_back : (request : EventRequest) → read_event_request (event_request_frame request) ≡ Ok request
 unfolding event_request_bytes event_request_frame read_event_request
 request_back request = ap requested_by (scan_read_back poll_events poll_events poll_events [] (event_request_bytes request) refl refl)
 
@@ -27,11 +27,11 @@ four_bytes (a ∷ b ∷ []) four = let z : ⊥ = omega arith in absurd z
 four_bytes (a ∷ b ∷ c ∷ []) four = let z : ⊥ = omega arith in absurd z
 four_bytes (a ∷ b ∷ c ∷ d ∷ e ∷ more) four = let z : ⊥ = omega arith in absurd z
 
-request_exact : (input : List ℕ) (request : EventRequest) → read_event_request input ≡ Asked request → input ≡ event_request_frame request
+request_exact : (input : List ℕ) (request : EventRequest) → read_event_request input ≡ Ok request → input ≡ event_request_frame request
 unfolding event_request_frame read_event_request
 request_exact input request e = by (framed_at event_request_framing input 0) refl e
   where
-    by : (r : FrameRead) → framed_at event_request_framing input 0 ≡ r → requested_by r ≡ Asked request
+    by : (r : FrameRead) → framed_at event_request_framing input 0 ≡ r → requested_by r ≡ Ok request
         → input ≡ frame event_request_framing scan_first poll_events (event_request_bytes request)
     by (framed first s carried) read e =
         let is : request_of carried ≡ request = cc in

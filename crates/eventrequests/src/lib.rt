@@ -11,8 +11,8 @@ ghost use Rattle.refusal.specs.Output.{Wrote};
 ghost use Rattle.eventrequests.specs.Reading.{read_event_request};
 ghost use Rattle.eventrequests.specs.Writing.{write_event_request};
 
-use framing::{BROADCAST, EXTENDED, Head, POLL, head_at, write_closed};
-use refusal::{Refusal, Written};
+use framing::{BROADCAST, EXTENDED, POLL, head_at, write_closed};
+use refusal::Refusal;
 
 // What a client asks of all devices: the smallest id that may answer, the most bytes of events, and
 // the packet that it confirms, by its sender's id and its flag.
@@ -24,31 +24,21 @@ pub struct EventRequest {
     pub flag: u8,
 }
 
-// What the reader of requests finds.
-#[derive(Clone, Copy)]
-pub enum EventRequestRead {
-    Asked(EventRequest),
-    Refused(Refusal),
-}
-
 // What a request asks. It must fill the whole input; nothing is passed over.
-pub fn read_event_request(input: &[u8]) -> EventRequestRead
+pub fn read_event_request(input: &[u8]) -> Result<EventRequest, Refusal>
     ensures { result ≡ read_event_request input.now }
 {
-    let head = head_at(POLL, POLL, input, 0);
-    match head {
-        Head::Framed(_) => EventRequestRead::Asked(EventRequest {
-            minimum: input[3],
-            most: input[4],
-            confirmed: input[5],
-            flag: input[6],
-        }),
-        Head::Wrong(why) => EventRequestRead::Refused(why),
-    }
+    head_at(POLL, POLL, input, 0)?;
+    Ok(EventRequest {
+        minimum: input[3],
+        most: input[4],
+        confirmed: input[5],
+        flag: input[6],
+    })
 }
 
 // Writes a request.
-pub fn write_event_request(request: EventRequest, out: &mut [u8]) -> Written
+pub fn write_event_request(request: EventRequest, out: &mut [u8]) -> Result<usize, Refusal>
     ensures { Wrote id (write_event_request request (length out.old)) result out.old out.new }
 {
     let body = [

@@ -1,12 +1,9 @@
 -- Rule F7: an event and its bytes, one event at a position of any bytes, and the events that bytes are from end to end; and the
 -- ids of devices.
 -- Assumes nothing.
-use Rattle.std.specs.Prelude.{◌≡◌, Bool, ◌&&◌, ℕ, zero, suc, ◌+◌, ◌*◌, ◌/◌, ◌%◌, List, [], ◌∷◌, ◌++◌, eqb, leb, length, get_or, take, drop}
+use Rattle.std.specs.Prelude.{◌≡◌, Bool, ◌&&◌, ℕ, zero, suc, ◌+◌, ◌*◌, ◌/◌, ◌%◌, List, [], ◌∷◌, ◌++◌, eqb, leb, length, get_or, take, drop, Option, Some, None}
 use Rattle.lists.specs.Choice.{pick}
-use Rattle.events.specs.declared.EventRead.{EventRead}
-use Rattle.events.specs.declared.EventRead.TheVariants.{Whole, Broken}
-use Rattle.events.specs.declared.Listing.{Listing}
-use Rattle.events.specs.declared.Listing.TheVariants.{Even, Uneven}
+use Rattle.events.specs.declared.PlacedEvent.{PlacedEvent}
 
 -- ---- ids
 
@@ -43,17 +40,20 @@ events_bytes (event ∷ events) = event_bytes event ++ events_bytes events
 abbrev pub event_head : ℕ
 event_head = 4
 
--- kind, identifier, where its data is, how long that is, and the position behind it: where all of it is there. Behind the end
--- of the input nothing is.
-unfoldable pub event_at : List ℕ → ℕ → EventRead
+-- kind, identifier, where its data is and how long that is; the position behind it is where the data ends
+abbrev pub placed : ℕ → ℕ → ℕ → ℕ → PlacedEvent
+placed kind identifier start size = record { kind = kind; identifier = identifier; start = start; size = size; next = start + size }
+
+-- the event at this position, where all of it is there. Behind the end of the input nothing is.
+unfoldable pub event_at : List ℕ → ℕ → Option PlacedEvent
 event_at input at =
     pick (leb (at + event_head + get_or input at 0) (length input))
-    (Whole (get_or input (at + 1) 0) (get_or input (at + 2) 0 * 256 + get_or input (at + 3) 0) (at + event_head) (get_or input at 0) (at + event_head + get_or input at 0)) Broken
+    (Some (placed (get_or input (at + 1) 0) (get_or input (at + 2) 0 * 256 + get_or input (at + 3) 0) (at + event_head) (get_or input at 0))) None
 
 -- the position behind it
-abbrev pub next_of : EventRead → ℕ
-next_of (Whole kind identifier start size next) = next
-next_of Broken = 0
+abbrev pub next_of : Option PlacedEvent → ℕ
+next_of (Some event) = event.next
+next_of None = 0
 
 -- ---- its data, as a part of the input
 
@@ -63,9 +63,9 @@ pub record Part : Type 0 where
   pub size : ℕ
 
 -- where no whole event stands, the empty start
-abbrev pub data_of : EventRead → Part
-data_of (Whole kind identifier start size next) = record { start = start; size = size }
-data_of Broken = record { start = 0; size = 0 }
+abbrev pub data_of : Option PlacedEvent → Part
+data_of (Some event) = record { start = event.start; size = event.size }
+data_of None = record { start = 0; size = 0 }
 
 unfoldable pub data_part : List ℕ → ℕ → Part
 data_part input at = data_of (event_at input at)
@@ -81,9 +81,9 @@ pub record ShowsEventData (input : List ℕ) (input_place : ℕ × ℕ) (at : �
 -- ---- a walk over events
 
 -- the event with its data, which stays where it is in the input, before others; none where it is broken
-abbrev pub in_front : List ℕ → EventRead → List Event → List Event
-in_front input (Whole kind identifier start size next) events = record { kind = kind; identifier = identifier; payload = shown input (data_of (Whole kind identifier start size next)) } ∷ events
-in_front input Broken events = []
+abbrev pub in_front : List ℕ → Option PlacedEvent → List Event → List Event
+in_front input (Some event) events = record { kind = event.kind; identifier = event.identifier; payload = shown input (data_of (Some event)) } ∷ events
+in_front input None events = []
 
 -- the events that a caller finds who takes so many from a position on, each where the last one ended
 unfoldable pub walked : ℕ → List ℕ → ℕ → List Event
@@ -98,10 +98,10 @@ pub data Listed : Type 0 where
   uneven : Listed
 
 -- one event more before them
-abbrev pub add : List ℕ → EventRead → Listed → Listed
-add bytes (Whole kind identifier start size next) (listed events) = listed (in_front bytes (Whole kind identifier start size next) events)
-add bytes (Whole kind identifier start size next) uneven = uneven
-add bytes Broken rest = uneven
+abbrev pub add : List ℕ → Option PlacedEvent → Listed → Listed
+add bytes (Some event) (listed events) = listed (in_front bytes (Some event) events)
+add bytes (Some event) uneven = uneven
+add bytes None rest = uneven
 
 -- from a position to the end, at most so many
 unfoldable pub events_from : ℕ → List ℕ → ℕ → Listed
@@ -119,6 +119,6 @@ how_many_listed (listed events) = length events
 how_many_listed uneven = 0
 
 -- the same, as the code answers it
-abbrev pub listing_of : Listed → Listing
-listing_of (listed events) = Even (length events)
-listing_of uneven = Uneven
+abbrev pub listing_of : Listed → Option ℕ
+listing_of (listed events) = Some (length events)
+listing_of uneven = None

@@ -5,76 +5,55 @@
 // and `event_data` hands out the data of one as a part of the input.
 #![tactic(auto)]
 
-ghost use Rattle.std.specs.Prelude.{◌≡◌, ◌+◌, ◌*◌, ◌<◌, length, get_or};
+ghost use Rattle.std.specs.Prelude.{◌≡◌};
 ghost use Rattle.events.specs.Events.{is_id, event_at, ShowsEventData, events_in, listing_of};
 
 // The ids of devices go up to this.
 pub const LARGEST_ID: u8 = 247;
 
-// One event: its kind and its identifier, where its data starts in the input and how long that is, and
-// the position behind it.
+// One event and where it stands: its kind and its identifier, where its data starts in the input and
+// how long that is, and the position behind it.
 #[derive(Clone, Copy)]
-pub enum EventRead {
-    Whole {
-        kind: u8,
-        identifier: u16,
-        start: usize,
-        size: u8,
-        next: usize,
-    },
-    Broken,
-}
-
-// How many events bytes are from end to end.
-#[derive(Clone, Copy)]
-pub enum Listing {
-    Even(usize),
-    Uneven,
+pub struct PlacedEvent {
+    pub kind: u8,
+    pub identifier: u16,
+    pub start: usize,
+    pub size: u8,
+    pub next: usize,
 }
 
 // Whether a byte is a device's id.
+#[tactic(auto, unfolding(crate::specs::Events::is_id))]
 pub fn is_id(byte: u8) -> bool
     ensures { result ≡ is_id byte }
 {
-    if byte < 1 {
-        return false;
-    }
-    byte <= LARGEST_ID
+    (1..=LARGEST_ID).contains(&byte)
 }
 
 // The event at a position of any bytes, where all of it is there.
-pub fn event_at(input: &[u8], at: usize) -> EventRead
+#[tactic(auto, unfolding(crate::specs::Events::event_at))]
+pub fn event_at(input: &[u8], at: usize) -> Option<PlacedEvent>
     ensures { result ≡ event_at input.now at }
 {
     if input.len() < at {
-        return EventRead::Broken;
+        return None;
     }
     let left = input.len() - at;
     if left < 4 {
-        return EventRead::Broken;
+        return None;
     }
     let size = input[at];
     if left - 4 < size as usize {
-        return EventRead::Broken;
+        return None;
     }
     let start = at + 4;
-    EventRead::Whole {
+    Some(PlacedEvent {
         kind: input[at + 1],
-        identifier: pair_at(input, at + 2),
+        identifier: u16::from_be_bytes([input[at + 2], input[at + 3]]),
         start,
         size,
         next: start + size as usize,
-    }
-}
-
-// Two bytes, high byte first.
-fn pair_at(input: &[u8], place: usize) -> u16
-    requires { place + 1 < length input.now }
-    ensures { result ≡ get_or input.now place 0 * 256 + get_or input.now (place + 1) 0 }
-{
-    let high = input[place] as u16;
-    let low = input[place + 1] as u16;
-    high * 256 + low
+    })
 }
 
 // The data of the event at a position, a part of the input. Where no whole event stands, it is the
@@ -82,26 +61,22 @@ fn pair_at(input: &[u8], place: usize) -> u16
 pub fn event_data<'a>(input: &'a [u8], at: usize) -> &'a [u8]
     ensures { ShowsEventData input.now input.entry.ref_ptr at result.ref_ptr result.now }
 {
-    let event = event_at(input, at);
-    match event {
-        EventRead::Whole { start, next, .. } => &input[start..next],
-        EventRead::Broken => &input[..0],
+    match event_at(input, at) {
+        Some(event) => &input[event.start..event.next],
+        None => &input[..0],
     }
 }
 
-// How many events these bytes are.
-pub fn count_events(events: &[u8]) -> Listing
+// How many events these bytes are, where they come out even. A step goes to where the event ends, so no `for` counts it.
+pub fn count_events(events: &[u8]) -> Option<usize>
     ensures { result ≡ listing_of (events_in events.now) }
 {
     let mut count = 0;
     let mut i = 0;
     while i < events.len() {
-        let event = event_at(events, i);
-        let EventRead::Whole { next, .. } = event else {
-            return Listing::Uneven;
-        };
+        let event = event_at(events, i)?;
         count += 1;
-        i = next;
+        i = event.next;
     }
-    Listing::Even(count)
+    Some(count)
 }

@@ -1,5 +1,6 @@
 -- What is heard of a poll, by who wins the contest: `Answered`.
 -- Assumes nothing.
+use Rattle.std.specs.Prelude.{Ok}
 use mathlib.Core.Path.{◌≡◌, refl, sym, ap, ◌∙◌, subst}
 use mathlib.Core.Bool.{Bool, true}
 use mathlib.Core.List.{List, [], ◌∷◌}
@@ -92,7 +93,7 @@ module _ (request : EventRequest) (now : State) (v : valid_queues now.table now.
         );
       }
 
-  read : (dominant id : ℕ) → poll_heard request t q ≡ nothing dominant id → (dominant ≡ dominants request t q) × (read_events (heard_bytes (nothing dominant id)) ≡ Nothing dominant)
+  read : (dominant id : ℕ) → poll_heard request t q ≡ nothing dominant id → (dominant ≡ dominants request t q) × (read_events (heard_bytes (nothing dominant id)) ≡ Ok (Nothing dominant))
   read dominant id heard =
       let fill = nothing_fill request t q dominant id heard in
       (fill.0, nothing_read dominant id (omega (arith, fill.1)))
@@ -111,11 +112,11 @@ module _ (request : EventRequest) (now : State) (v : valid_queues now.table now.
         by_one = λ device there c. (answering request t q, answers w);
         by_none = λ nobody. true_not_false w.in_contest (nobody (answering request t q) w.there);
         silent = λ heard device there. absurd (⊎_elim
-            (λ none. let said = heard_idle request t q w.there none in let z : ◌≡◌ {A = ℕ} 0 1 = cc in let n : ⊥ = omega arith in n)
-            (λ some. let said = heard_busy request t q w.there some in let z : ◌≡◌ {A = ℕ} 0 1 = cc in let n : ⊥ = omega arith in n)
+            (λ none. let said = heard_idle request t q w.there none in cc)
+            (λ some. let said = heard_busy request t q w.there some in cc)
             (none_or_some (queue q (answering request t q))));
         nothing_queued = λ dominant id heard. ⊎_elim (all_idle request t q (confirming_valid request t now.queues v) w)
-            (λ some. let said = heard_busy request t q w.there some in let z : ◌≡◌ {A = ℕ} 0 1 = cc in absurd (let n : ⊥ = omega arith in n))
+            (λ some. let said = heard_busy request t q w.there some in cc)
             (none_or_some (queue q (answering request t q)));
         nothing_read = read;
       }

@@ -29,7 +29,7 @@ pub record Fits (most n : ℕ) (events : List Queued) : Type 0 where
 
 pub as_many_fit : (most : ℕ) (events : List Queued) → Fits most (how_many_fit most events) events
 unfolding how_many_fit events_bytes oldest_fits
-as_many_fit most [] = record { few = omega arith; within = omega arith; full = λ h. absurd (let z : ⊥ = omega arith in z); some = λ fits some. some }
+as_many_fit most [] = record { few = omega arith; within = omega arith; full = λ h. absurd (omega arith); some = λ fits some. some }
 as_many_fit most (e ∷ es) =
     pick_cases (λ (n : ℕ). Fits most n (e ∷ es)) (leb (event_size e) most) (suc (how_many_fit (most - event_size e) es)) 0
     (λ fits. let rest = as_many_fit (most - event_size e) es in

@@ -1,6 +1,7 @@
 -- A device's ledger beside its queue: how they go together, and how they go on doing so when an event is queued, when a packet is
 -- confirmed or not, and when one is heard.
 -- Assumes nothing.
+use Rattle.std.specs.Prelude.{Ok}
 use mathlib.Core.Path.{◌≡◌, refl, sym, ap, ◌∙◌, subst₃}
 use mathlib.Core.Bool.{true}
 use mathlib.Core.List.{List, [], ◌∷◌, ◌++◌, append_assoc, append-nil}
@@ -14,7 +15,6 @@ use Rattle.lists.proofs.Cases.{pick_cases, true_not_false, both, both_first, bot
 use Rattle.eventrequests.specs.declared.EventRequest.{EventRequest}
 use Rattle.queues.proofs.Events.{queued_length}
 use Rattle.queues.specs.Queues.{Queues, Queued, flag_of, last_of, count_of, slots_of, queue}
-use Rattle.newevents.specs.declared.Added.TheVariants.{Done}
 use Rattle.confirmation.specs.Confirmation.{other_flag}
 use Rattle.polls.specs.Poll.{packet}
 use Rattle.eventsequence.specs.Calls.{Ledger, opening, enter_new, names_packet, packet_dropped, enter_confirmed, packet_sent, enter_heard}
@@ -47,7 +47,7 @@ module _ {old events : List Queued} {last flag : ℕ} {l : Ledger} (f : Follows 
 
   -- ---- a new event
 
-  pub follows_new : (e : Queued) → last ≤ length events → Follows old (events ++ e ∷ []) last flag (enter_new Done e l)
+  pub follows_new : (e : Queued) → last ≤ length events → Follows old (events ++ e ∷ []) last flag (enter_new (Ok tt) e l)
   follows_new e sent =
       record {
         in_order = sym (append_assoc old l.queued (e ∷ [])) ∙ ap (λ (x : List Queued). x ++ e ∷ []) f.in_order ∙ append_assoc l.dropped events (e ∷ []);

@@ -1,5 +1,7 @@
 -- Devices that are new: `FreshDevices`.
 -- Assumes nothing.
+use Rattle.std.specs.Prelude.{Result, Ok, Err}
+use Rattle.refusal.specs.declared.Refusal.{Refusal}
 use mathlib.Core.Path.{◌≡◌, refl, sym, ap, ◌∙◌, subst, subst₂}
 use mathlib.Core.Bool.{true}
 use mathlib.Core.List.{List, [], ◌∷◌}
@@ -19,8 +21,6 @@ use Rattle.queues.proofs.Below.{below_from}
 use Rattle.queues.proofs.SlotsRight.{slots_decide}
 use Rattle.queues.proofs.Meaning.{valid_from}
 use Rattle.newevents.specs.Event.{add_call}
-use Rattle.newevents.specs.declared.Added.{Added}
-use Rattle.newevents.specs.declared.Added.TheVariants.{Done, Refused}
 use Rattle.polls.specs.Poll.{Heard, silence, nothing, packet, PollTurn}
 use Rattle.polls.specs.Calls.{poll_call}
 use Rattle.eventsequence.specs.Calls.{AnyCall, add, poll, scan, State, stepped, Ledger, opening, enter_new, names_packet, packet_dropped, enter_confirmed, packet_sent, enter_heard, enter_polls, enter, ledger}
@@ -33,16 +33,16 @@ abbrev Unturned : ℕ → Ledger → Type 0
 Unturned flag l = l.dropped ≡ [] → l.flag ≡ flag
 
 module _ {flag : ℕ} (id : ℕ) where
-  new_unturned : (added : Added) (e : Queued) (l : Ledger) → Unturned flag l → Unturned flag (enter_new added e l)
-  new_unturned Done e l u = u
-  new_unturned (Refused why) e l u = u
+  new_unturned : (added : Result (Unit {0}) Refusal) (e : Queued) (l : Ledger) → Unturned flag l → Unturned flag (enter_new added e l)
+  new_unturned (Ok tt) e l u = u
+  new_unturned (Err why) e l u = u
 
   -- a packet that is dropped has events
   confirmed_unturned : (request : EventRequest) (l : Ledger) → Unturned flag l → Unturned flag (enter_confirmed id request l)
   confirmed_unturned request l u =
       pick_cases (Unturned flag) (names_packet id request l) (packet_dropped l) l
       (λ n none. let some = ltb-true 0 (length l.packet) (both_second (eqb request.flag l.flag) _ (both_second (eqb request.confirmed id) _ n)) in
-      let z : ⊥ = omega (arith, length-append l.dropped l.packet, ap length none) in absurd z)
+      absurd (omega (arith, length-append l.dropped l.packet, ap length none)))
       (λ n. u)
 
   heard_unturned : (heard : Heard) (l : Ledger) → Unturned flag l → Unturned flag (enter_heard id heard l)

@@ -1,16 +1,15 @@
 -- Calls on events look at no mark: with the same devices they give the same.
 -- Assumes nothing.
+use Rattle.std.specs.Prelude.{Result, Ok, Err}
+use Rattle.refusal.specs.declared.Refusal.{Refusal}
+use Rattle.eventrequests.specs.declared.EventRequest.{EventRequest}
 use mathlib.Core.Path.{◌≡◌, refl, sym, ap, ◌∙◌}
 use mathlib.Core.Bool.{Bool, true}
 use mathlib.Core.List.{List}
 use Prim.Native.Nat.{ℕ}
 use lib.ListN.{length}
 use Rattle.guard.specs.Guard.{guard}
-use Rattle.guard.specs.declared.Guard.{Guard}
-use Rattle.guard.specs.declared.Guard.TheVariants.{Passed, Refused as GuardRefused}
 use Rattle.table.specs.Table.{Table, marked, valid}
-use Rattle.eventrequests.specs.declared.EventRequestRead.{EventRequestRead}
-use Rattle.eventrequests.specs.declared.EventRequestRead.TheVariants.{Asked, Refused as RequestRefused}
 use Rattle.queues.specs.Queues.{Queues, Queued, valid_queues}
 use Rattle.newevents.specs.Event.{add_call}
 use Rattle.polls.specs.Poll.{sent_by, poll_heard, poll}
@@ -27,16 +26,16 @@ module _ (t : Table) (marks : List ℕ) (v : valid t ≡ true) (again : valid (m
   unfolding add_call
   add_marked id e = rw valid_marked
 
-  reading_marked : (read : EventRequestRead) (buffer : List ℕ) → poll_reading read buffer (marked t marks) q ≡ poll_reading read buffer t q
+  reading_marked : (read : Result EventRequest Refusal) (buffer : List ℕ) → poll_reading read buffer (marked t marks) q ≡ poll_reading read buffer t q
   unfolding polling poll poll_heard sent_by
-  reading_marked (Asked request) buffer = refl
-  reading_marked (RequestRefused why) buffer = refl
+  reading_marked (Ok request) buffer = refl
+  reading_marked (Err why) buffer = refl
 
-  behind_marked : (g : Guard) (read : EventRequestRead) (buffer : List ℕ) → poll_behind g read buffer (marked t marks) q ≡ poll_behind g read buffer t q
-  behind_marked Passed read buffer = reading_marked read buffer
-  behind_marked (GuardRefused why) read buffer = refl
+  behind_marked : (g : Result (Unit {0}) Refusal) (read : Result EventRequest Refusal) (buffer : List ℕ) → poll_behind g read buffer (marked t marks) q ≡ poll_behind g read buffer t q
+  behind_marked (Ok tt) read buffer = reading_marked read buffer
+  behind_marked (Err why) read buffer = refl
 
-  poll_marked : (read : EventRequestRead) (buffer : List ℕ) → poll_call read buffer (marked t marks) q ≡ poll_call read buffer t q
+  poll_marked : (read : Result EventRequest Refusal) (buffer : List ℕ) → poll_call read buffer (marked t marks) q ≡ poll_call read buffer t q
   unfolding poll_call
   poll_marked read buffer =
       behind_marked (guard poll_room (length buffer) (valid_queues (marked t marks) q)) read buffer
@@ -53,5 +52,5 @@ module _ (t now : Table) (v : valid t ≡ true) (same : SameDevices t now) (q : 
   pub add_same : (id : ℕ) (e : Queued) → add_call now q id e ≡ add_call t q id e
   add_same id e = ap (λ (x : Table). add_call x q id e) same.columns_stay ∙ add_marked t now.marks v as_marked q id e
 
-  pub poll_same : (read : EventRequestRead) (buffer : List ℕ) → poll_call read buffer now q ≡ poll_call read buffer t q
+  pub poll_same : (read : Result EventRequest Refusal) (buffer : List ℕ) → poll_call read buffer now q ≡ poll_call read buffer t q
   poll_same read buffer = ap (λ (x : Table). poll_call read buffer x q) same.columns_stay ∙ poll_marked t now.marks v as_marked q read buffer

@@ -1,16 +1,17 @@
 -- A call for a new event: queues stay valid, and every device's ledger follows its queue.
 -- Assumes nothing.
+use Rattle.std.specs.Prelude.{Result, Ok, Err}
+use Rattle.refusal.specs.declared.Refusal.{Refusal}
 use mathlib.Core.Path.{◌≡◌, refl, sym, ap, ◌∙◌, subst}
 use mathlib.Core.Bool.{true}
 use mathlib.Core.List.{List, [], ◌∷◌, ◌++◌}
-use mathlib.Core.Logic.{⊎_elim}
 use Prim.Native.Nat.{ℕ, ◌≤◌, ◌<◌}
 use native.Mathlib.Omega.{arith}
-use lib.Dec.{ltb, eqb}
+use lib.Dec.{leb, ltb, eqb}
 use lib.ListN.{length, get_or}
-use borrow.Author.Tests.{ltb-true, ltb-false, eqb-true, eqb-false}
+use borrow.Author.Tests.{le-leb, le-ltb, lt-ltb, ltb-true, ltb-false, eqb-true, eqb-false}
 use Rattle.lists.specs.Choice.{pick}
-use Rattle.lists.proofs.Cases.{le_or_lt, pick_cases}
+use Rattle.lists.proofs.Cases.{by_test, pick_cases}
 use Rattle.refusal.specs.Number.{frame_length, queue_full, at_place}
 use Rattle.table.specs.Table.{Table, devices}
 use Rattle.queues.proofs.Events.{queued_length}
@@ -18,9 +19,6 @@ use Rattle.queues.specs.Queues.{Queues, Queued, count_of, flag_of, last_of, slot
 use Rattle.queues.proofs.Meaning.{Tested, tested}
 use Rattle.queues.proofs.Replaced.{last_sent}
 use Rattle.newevents.specs.Event.{Adding, add_refusing, add_call, OneMore}
-use Rattle.newevents.specs.declared.Added.{Added}
-use Rattle.newevents.specs.declared.Added.TheVariants.{Done, Refused}
-use Rattle.newevents.proofs.AddCases.{add_nobody, add_long, add_full, add_done}
 use Rattle.newevents.proofs.NewEvent.{new_event}
 use Rattle.eventsequence.specs.Calls.{add, State, Ledger, enter_new, enter}
 use Rattle.eventsequence.proofs.Places.{found_there}
@@ -28,30 +26,31 @@ use Rattle.eventsequence.proofs.Follows.{FollowsIn, follows_on, follows_new}
 
 -- it is accepted, or refused with a number and changes nothing
 data Came (q : Queues) (given : Adding) : Type 0 where
-  accepted : given.added ≡ Done → Came q given
+  accepted : given.added ≡ Ok tt → Came q given
   refused : (number : ℕ) → given ≡ add_refusing number q → Came q given
 
 came : (t : Table) (q : Queues) (to : ℕ) (e : Queued) → valid_queues t q ≡ true → Came q (add_call t q to e)
+unfolding add_call
 came t q to e v =
-    ⊎_elim (λ nobody. refused frame_length (add_nobody t q to e v nobody))
-    (λ there. ⊎_elim
-    (λ few. ⊎_elim (λ full. refused queue_full (add_full t q to e v there few full))
-    (λ room. accepted (ap (λ (a : Adding). a.added) (add_done t q to e v there few room)))
-    (le_or_lt most_queued (count_of q (device_of t to))))
-    (λ long. refused frame_length (add_long t q to e v there long))
-    (le_or_lt (length e.event.payload) most_data))
-    (le_or_lt (devices t) (device_of t to))
+    by_test (ltb (device_of t to) (devices t))
+    (λ there. by_test (leb (length e.event.payload) most_data)
+    (λ few. by_test (ltb (count_of q (device_of t to)) most_queued)
+    (λ room. accepted (simp (v, there, few, room)))
+    (λ full. refused queue_full (simp (v, there, few, full))))
+    (λ long. refused frame_length (simp (v, there, long))))
+    (λ nobody. refused frame_length (simp (v, nobody)))
 
 -- a device's own queue decides
 pub room_decides : (t : Table) (q : Queues) (v : valid_queues t q ≡ true) (device : ℕ) → device < devices t → (e : Queued) → length e.event.payload ≤ 8
-    → (add_call t q (get_or t.addresses device 0) e).added ≡ pick (ltb (length (queue q device)) 8) Done (Refused (at_place queue_full 0))
+    → (add_call t q (get_or t.addresses device 0) e).added ≡ pick (ltb (length (queue q device)) 8) (Ok tt) (Err (at_place queue_full 0))
+unfolding add_call
 room_decides t q v device there e few =
     let id = get_or t.addresses device 0 in
     let here : device_of t id ≡ device = found_there t q (tested t q v) device id there refl in
     let same : count_of q (device_of t id) ≡ length (queue q device) = ap (count_of q) here ∙ sym (queued_length (count_of q device) (slots_of q.slots device)) in
-    pick_cases (λ (a : Added). (add_call t q id e).added ≡ a) (ltb (length (queue q device)) 8) Done (Refused (at_place queue_full 0))
-    (λ room. ap (λ (a : Adding). a.added) (add_done t q id e v (omega arith) few (omega (arith, ltb-true (length (queue q device)) 8 room))))
-    (λ full. ap (λ (a : Adding). a.added) (add_full t q id e v (omega arith) few (omega (arith, ltb-false (length (queue q device)) 8 full))))
+    pick_cases (λ (a : Result (Unit {0}) Refusal). (add_call t q id e).added ≡ a) (ltb (length (queue q device)) 8) (Ok tt) (Err (at_place queue_full 0))
+    (λ room. simp (v, lt-ltb (device_of t id) (devices t) (omega arith), le-leb _ _ few, lt-ltb (count_of q (device_of t id)) 8 (omega (arith, ltb-true (length (queue q device)) 8 room))))
+    (λ full. simp (v, lt-ltb (device_of t id) (devices t) (omega arith), le-leb _ _ few, le-ltb (count_of q (device_of t id)) 8 (omega (arith, ltb-false (length (queue q device)) 8 full))))
 
 module _ (s : State) (v : valid_queues s.table s.queues ≡ true) (to : ℕ) (e : Queued) where
   abbrev given : Adding
@@ -79,7 +78,7 @@ module _ (s : State) (v : valid_queues s.table s.queues ≡ true) (to : ℕ) (e 
       same_flag : flag_of given.queues device ≡ flag_of s.queues device
       same_flag = ap (λ (flags : List ℕ). get_or flags device 0) one.flags_stay
 
-      own_follows : device_of s.table to ≡ device → FollowsIn old device given.queues (enter_new Done e l)
+      own_follows : device_of s.table to ≡ device → FollowsIn old device given.queues (enter_new (Ok tt) e l)
       own_follows here =
           let sent : last_of s.queues device ≤ length (queue s.queues device) =
           omega (arith, last_sent s.table s.queues g device there, queued_length (count_of s.queues device) (slots_of s.queues.slots device)) in
@@ -88,11 +87,11 @@ module _ (s : State) (v : valid_queues s.table s.queues ≡ true) (to : ℕ) (e 
       other_follows : (device ≡ device_of s.table to → ⊥) → FollowsIn old device given.queues l
       other_follows apart = follows_on f (one.others device apart) same_last same_flag
 
-    accepted_follows : given.added ≡ Done → FollowsIn old device given.queues (enter id (add to e) s l)
+    accepted_follows : given.added ≡ Ok tt → FollowsIn old device given.queues (enter id (add to e) s l)
     accepted_follows done =
         let event = new_event s.table s.queues to e done in
         pick_cases (FollowsIn old device given.queues) (eqb to id) _ l
-        (λ own. subst (λ (a : Added). FollowsIn old device given.queues (enter_new a e l)) (sym done)
+        (λ own. subst (λ (a : Result (Unit {0}) Refusal). FollowsIn old device given.queues (enter_new a e l)) (sym done)
         (own_follows event.2
         (found_there s.table s.queues g device to there (sym (eqb-true to id own)))))
         (λ other. other_follows event.2 (λ here. eqb-false to id other (sym event.1 ∙ ap (λ (i : ℕ). get_or s.table.addresses i 0) (sym here))))

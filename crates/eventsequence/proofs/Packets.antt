@@ -53,8 +53,8 @@ module _ (request : EventRequest) (t : Table) (q : Queues) (v : valid_queues t q
       → poll_heard request t q ≡ packet dominant (get_or t.addresses device 0) flag queued events → PacketOf request.most q device flag queued events
   packet_of device there dominant flag queued events =
       heard_cases request t q (λ (h : Heard). h ≡ packet dominant (get_or t.addresses device 0) flag queued events → PacketOf request.most q device flag queued events)
-      (λ e. let z : ◌≡◌ {A = ℕ} 0 1 = cc in absurd (let w : ⊥ = omega arith in w))
-      (λ d i e. let z : ◌≡◌ {A = ℕ} 0 1 = cc in absurd (let w : ⊥ = omega arith in w))
+      (λ e. cc)
+      (λ d i e. cc)
       (λ inside some e.
       let sender : get_or t.addresses (answering request t q) 0 ≡ get_or t.addresses device 0 = cc in
       let same_flag : flag_of q (answering request t q) ≡ flag = cc in

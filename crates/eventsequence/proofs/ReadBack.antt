@@ -1,5 +1,6 @@
 -- What a poll hears is read back: a packet of a device with its events, and that nobody has any.
 -- Assumes nothing.
+use Rattle.std.specs.Prelude.{Ok}
 use mathlib.Core.Path.{◌≡◌, sym, ap, ◌∙◌}
 use mathlib.Core.Bool.{true}
 use mathlib.Core.List.{List, map}
@@ -21,11 +22,11 @@ module _ (dominant id flag queued : ℕ) (events : List Queued) where
   same = length-map events event_of
 
   pub packet_read : dominant ≤ most_fill → is_id id ≡ true → length events ≤ queued
-      → read_events (heard_bytes (packet dominant id flag queued events)) ≡ Packet dominant id flag queued (length events) (dominant + 6) (on_wire events)
+      → read_events (heard_bytes (packet dominant id flag queued events)) ≡ Ok (Packet dominant id flag queued (length events) (dominant + 6) (on_wire events))
   unfolding heard_bytes
   packet_read low right few =
       event_packets.packet_back dominant id flag queued (map event_of events) low right (omega (arith, same))
-      ∙ ap (λ (n : ℕ). Packet dominant id flag queued n (dominant + 6) (on_wire events)) same
+      ∙ ap (λ (n : ℕ). Ok (Packet dominant id flag queued n (dominant + 6) (on_wire events))) same
 
   pub packet_walk : walked (length events) (heard_bytes (packet dominant id flag queued events)) (dominant + 6) ≡ map event_of events
   unfolding heard_bytes
@@ -33,6 +34,6 @@ module _ (dominant id flag queued : ℕ) (events : List Queued) where
       ap (λ (n : ℕ). walked n (heard_bytes (packet dominant id flag queued events)) (dominant + 6)) (sym same)
       ∙ event_packets.events_back dominant id flag queued (map event_of events)
 
-pub nothing_read : (dominant id : ℕ) → dominant ≤ most_fill → read_events (heard_bytes (nothing dominant id)) ≡ Nothing dominant
+pub nothing_read : (dominant id : ℕ) → dominant ≤ most_fill → read_events (heard_bytes (nothing dominant id)) ≡ Ok (Nothing dominant)
 unfolding heard_bytes
 nothing_read dominant id low = event_packets.nothing_back dominant low

@@ -41,7 +41,7 @@ marker_low (e ∷ es) = omega (arith, marked_low (some_urgent (e ∷ es)))
 pub only_the_idle : (id other : ℕ) (events : List Queued) → other ≤ 247 → marker_of [] * 256 + id < marker_of events * 256 + other → events ≡ []
 unfolding marker_of
 only_the_idle id other [] low less = refl
-only_the_idle id other (e ∷ es) low less = let z : ⊥ = omega (arith, marked_low (some_urgent (e ∷ es))) in absurd z
+only_the_idle id other (e ∷ es) low less = absurd (omega (arith, marked_low (some_urgent (e ∷ es))))
 
 module _ (request : EventRequest) (id : ℕ) (events : List Queued) where
   key_in : contends request id events ≡ true → poll_key request id events ≡ marker_of events * 256 + id
@@ -54,7 +54,7 @@ module _ (request : EventRequest) (id : ℕ) (events : List Queued) where
   key_contends fits =
       by_test (contends request id events) (λ c. c)
       (λ c. let out : poll_key request id events ≡ 2 ^ poll_windows = ap (λ (b : Bool). pick b (marker_of events * 2 ^ 8 + id) (2 ^ poll_windows)) c in
-      let z : ⊥ = omega arith in absurd z)
+      absurd (omega arith))
 
 -- ---- the contest
 
@@ -110,7 +110,7 @@ module _ (request : EventRequest) (t : Table) (q : Queues) where
     nobody_contends above =
         none_wins (omega (arith, ap (λ (d : Decided). d.place) (nobody_law 12 keys above), keys_length))
         (λ device there. by_test (contending device)
-        (λ c. let z : ⊥ = omega (arith, above device (omega (arith, keys_length)), own_key device there c, marker_low (queue q device), id_low device there) in absurd z)
+        (λ c. absurd (omega (arith, above device (omega (arith, keys_length)), own_key device there c, marker_low (queue q device), id_low device there)))
         (λ c. c))
 
     smallest_wins : (m : ℕ) → Smallest m keys → m < 2 ^ 12 → Decides (poll_contest request t q)
@@ -134,7 +134,7 @@ module _ (request : EventRequest) (t : Table) (q : Queues) where
 
     pub decides : Decides (poll_contest request t q)
     decides =
-        ⊎_elim (λ none. nobody_contends (λ device h. absurd (let z : ⊥ = omega (arith, keys_length) in z)))
+        ⊎_elim (λ none. nobody_contends (λ device h. absurd (omega (arith, keys_length))))
         (λ some. let found = some_smallest keys (omega (arith, keys_length)) in
         ⊎_elim (λ over. nobody_contends (λ device h. let least = found.1.least device h in omega arith))
         (λ fits. smallest_wins found.0 found.1 fits)
@@ -146,5 +146,5 @@ module _ (request : EventRequest) (t : Table) (q : Queues) where
     winner_contends there = by_way decides
       where
         by_way : Decides (poll_contest request t q) → contending (poll_contest request t q).place ≡ true
-        by_way (none_wins over none) = let z : ⊥ = omega arith in absurd z
+        by_way (none_wins over none) = absurd (omega arith)
         by_way (one_wins w) = w.in_contest

@@ -1,15 +1,13 @@
 -- Calls on one table with its queues, made one after the other: new events, polls and the calls of a scan, in any order. What rule
 -- D16 speaks of.
 -- Assumes nothing.
-use Rattle.std.specs.Prelude.{ℕ, Bool, ◌&&◌, List, [], ◌∷◌, ◌++◌, ltb, eqb, length, take}
+use Rattle.std.specs.Prelude.{ℕ, Bool, ◌&&◌, List, [], ◌∷◌, ◌++◌, ltb, eqb, length, take, Result, Ok, Err}
 use Rattle.lists.specs.Choice.{pick}
+use Rattle.refusal.specs.declared.Refusal.{Refusal}
 use Rattle.table.specs.Table.{Table}
 use Rattle.eventrequests.specs.declared.EventRequest.{EventRequest}
-use Rattle.eventrequests.specs.declared.EventRequestRead.{EventRequestRead}
 use Rattle.queues.specs.Queues.{Queues, Queued, flag_of, last_of, queue}
 use Rattle.newevents.specs.Event.{add_call}
-use Rattle.newevents.specs.declared.Added.{Added}
-use Rattle.newevents.specs.declared.Added.TheVariants.{Done, Refused as AddRefused}
 use Rattle.polls.specs.Poll.{Heard, silence, nothing, packet, PollTurn}
 use Rattle.polls.specs.Calls.{poll_call}
 use Rattle.sequence.specs.Calls.{Call, step, table_of}
@@ -20,7 +18,7 @@ pub data AnyCall : Type 0 where
   -- a new event for the device with this id
   add : ℕ → Queued → AnyCall
   -- a poll as it was read, decoded or from a raw frame, and the answer buffer
-  poll : EventRequestRead → List ℕ → AnyCall
+  poll : Result EventRequest Refusal → List ℕ → AnyCall
   -- a call of demand 3
   scan : Call → AnyCall
 
@@ -68,9 +66,9 @@ abbrev pub opening : Queues → ℕ → Ledger
 opening q device = record { flag = flag_of q device; packet = take (last_of q device) (queue q device); queued = []; dropped = [] }
 
 -- a new event that is not refused
-abbrev pub enter_new : Added → Queued → Ledger → Ledger
-enter_new Done e l = record { flag = l.flag; packet = l.packet; queued = l.queued ++ e ∷ []; dropped = l.dropped }
-enter_new (AddRefused why) e l = l
+abbrev pub enter_new : Result (Unit {0}) Refusal → Queued → Ledger → Ledger
+enter_new (Ok tt) e l = record { flag = l.flag; packet = l.packet; queued = l.queued ++ e ∷ []; dropped = l.dropped }
+enter_new (Err why) e l = l
 
 -- a poll names the device, by its id, with the flag of the packet that is not confirmed
 abbrev pub names_packet : ℕ → EventRequest → Ledger → Bool

@@ -3,8 +3,7 @@
 -- events do not disturb each other. Each field has beside it what it says. The proof is in proofs/Kept.antt; nothing here needs it
 -- to be read.
 -- Assumes nothing.
-use Rattle.std.specs.Prelude.{◌≡◌, Bool, true, false, List, [], ◌++◌, map, ℕ, suc, ◌+◌, ◌*◌, ◌≤◌, ◌<◌, ltb, length, get_or, take}
-use Rattle.std.proofs.Math.Option.{Option, some, none}
+use Rattle.std.specs.Prelude.{◌≡◌, Bool, true, false, List, [], ◌++◌, map, ℕ, suc, ◌+◌, ◌*◌, ◌≤◌, ◌<◌, ltb, length, get_or, take, Option, Some, None, Result, Ok, Err}
 use Rattle.lists.specs.Choice.{pick}
 use Rattle.lists.specs.Starting.{starting}
 use Rattle.refusal.specs.Number.{queue_full, at_place}
@@ -14,17 +13,14 @@ use Rattle.arbitration.specs.Smallest.{zero_bits}
 use Rattle.table.specs.Table.{devices}
 use Rattle.events.specs.Events.{events_bytes, walked}
 use Rattle.eventrequests.specs.declared.EventRequest.{EventRequest}
-use Rattle.eventrequests.specs.declared.EventRequestRead.{EventRequestRead}
-use Rattle.eventrequests.specs.declared.EventRequestRead.TheVariants.{Asked, Refused as RequestRefused}
 use Rattle.queues.specs.Queues.{Queued, flag_of, last_of, queue, valid_queues}
 use Rattle.oldest.specs.Oldest.{marker_of}
 use Rattle.newevents.specs.Event.{add_call}
-use Rattle.newevents.specs.declared.Added.TheVariants.{Done, Refused}
 use Rattle.polls.specs.Poll.{event_of, contends, poll_windows, poll_keys, Heard, silence, nothing, packet, after_confirming, poll_heard}
 use Rattle.packets.specs.Reading.{read_events}
 use Rattle.packets.specs.declared.EventsRead.TheVariants.{Packet, Nothing}
 use Rattle.polls.specs.Calls.{heard_bytes, polled_as, Polling, poll_refusing, poll_call}
-use Rattle.sequence.specs.Calls.{after, history, since_start, short_or}
+use Rattle.sequence.specs.Calls.{after, history, since_start, refusal_in, short_or}
 use Rattle.sequence.specs.Sequence.{Holds}
 use Rattle.eventsequence.specs.Calls.{AnyCall, State, after_all, scans_of, events_of, Ledger, opening, enter_confirmed, ledger}
 
@@ -63,7 +59,7 @@ pub record PacketDue (device : ℕ) (now : State) (l : Ledger) (request : EventR
   -- before it stands an FF for each window that was dominant
   pub fill_due : dominant ≡ dominant_next request now
   -- read by the event reader, it is that, with those FF counted, and a walk over its events finds them
-  pub read : read_events (heard_bytes (packet dominant (id_of now device) flag queued events)) ≡ Packet dominant (id_of now device) flag queued (length events) (dominant + 6) (on_wire events)
+  pub read : read_events (heard_bytes (packet dominant (id_of now device) flag queued events)) ≡ Ok (Packet dominant (id_of now device) flag queued (length events) (dominant + 6) (on_wire events))
   pub walk : walked (length events) (heard_bytes (packet dominant (id_of now device) flag queued events)) (dominant + 6) ≡ map event_of events
 
 -- what was queued before and since is what confirmation dropped, in order, followed by what is queued now
@@ -82,7 +78,7 @@ pub record Kept (device : ℕ) (before now : State) (l : Ledger) : Type 0 where
   -- an event made next for it, with no more than 8 data bytes, is taken exactly where fewer than 8 are queued, so that room freed
   -- by confirmation is used again; else it is refused with 18
   pub accepts : (e : Queued) → length e.event.payload ≤ 8
-      → (add_call now.table now.queues (id_of now device) e).added ≡ pick (ltb (length (queue now.queues device)) 8) Done (Refused (at_place queue_full 0))
+      → (add_call now.table now.queues (id_of now device) e).added ≡ pick (ltb (length (queue now.queues device)) 8) (Ok tt) (Err (at_place queue_full 0))
 
 -- ---- who answers a poll made now
 
@@ -115,22 +111,18 @@ pub record Answered (request : EventRequest) (now : State) : Type 0 where
   pub nothing_queued : (dominant id : ℕ) → heard_next request now ≡ nothing dominant id
       → (device : ℕ) → device < devices now.table → contends_next request now device ≡ true → queue_met request now device ≡ []
   -- and is read as that, behind an FF for each window that was dominant, which are counted
-  pub nothing_read : (dominant id : ℕ) → heard_next request now ≡ nothing dominant id → (dominant ≡ dominant_next request now) × (read_events (heard_bytes (nothing dominant id)) ≡ Nothing dominant)
+  pub nothing_read : (dominant id : ℕ) → heard_next request now ≡ nothing dominant id → (dominant ≡ dominant_next request now) × (read_events (heard_bytes (nothing dominant id)) ≡ Ok (Nothing dominant))
 
 -- ---- what a poll made now gives
 
 -- its result, with the number of its FF, and the lent buffer tell what is heard; bytes behind the answer stay
 pub record Told (request : EventRequest) (now : State) (buffer : List ℕ) (given : Polling) : Type 0 where
-  pub result : given.polled ≡ polled_as (heard_next request now)
+  pub result : given.polled ≡ Ok (polled_as (heard_next request now))
   pub holds : given.buffer ≡ starting (heard_bytes (heard_next request now)) buffer
 
 -- why a poll is refused, if it is, with table and queues valid: its buffer is under 116 bytes, or the reader refused its frame
-abbrev pub request_refusal : EventRequestRead → Option Refusal
-request_refusal (Asked request) = none
-request_refusal (RequestRefused why) = some why
-
-abbrev pub poll_refusal : EventRequestRead → List ℕ → Option Refusal
-poll_refusal read buffer = short_or 116 (length buffer) (request_refusal read)
+abbrev pub poll_refusal : Result EventRequest Refusal → List ℕ → Option Refusal
+poll_refusal read buffer = short_or 116 (length buffer) (refusal_in read)
 
 -- ---- all of them, and the scans
 
@@ -147,13 +139,13 @@ pub record AllKept (before : State) (calls : List AnyCall) : Type 0 where
   pub queues_are : (after_all calls before).queues ≡ (after_all (events_of calls) before).queues
   -- and so is every answer: a new event or a poll made next gives what it would give with the table as it was at the beginning
   pub adds_alike : (id : ℕ) (e : Queued) → add_call (after_all calls before).table (after_all calls before).queues id e ≡ add_call before.table (after_all calls before).queues id e
-  pub polls_alike : (read : EventRequestRead) (buffer : List ℕ)
+  pub polls_alike : (read : Result EventRequest Refusal) (buffer : List ℕ)
       → poll_call read buffer (after_all calls before).table (after_all calls before).queues ≡ poll_call read buffer before.table (after_all calls before).queues
   -- a poll made next is refused for these reasons alone, and then changes nothing; else it tells what is heard
-  pub refused : (read : EventRequestRead) (buffer : List ℕ) (why : Refusal) → poll_refusal read buffer ≡ some why
+  pub refused : (read : Result EventRequest Refusal) (buffer : List ℕ) (why : Refusal) → poll_refusal read buffer ≡ Some why
       → poll_call read buffer (after_all calls before).table (after_all calls before).queues ≡ poll_refusing why buffer (after_all calls before).queues
-  pub told : (request : EventRequest) (buffer : List ℕ) → poll_refusal (Asked request) buffer ≡ none
-      → Told request (after_all calls before) buffer (poll_call (Asked request) buffer (after_all calls before).table (after_all calls before).queues)
+  pub told : (request : EventRequest) (buffer : List ℕ) → poll_refusal (Ok request) buffer ≡ None
+      → Told request (after_all calls before) buffer (poll_call (Ok request) buffer (after_all calls before).table (after_all calls before).queues)
   -- who answers a poll made next, whatever it asks
   pub answered : (request : EventRequest) → Answered request (after_all calls before)
   -- each device

@@ -9,7 +9,7 @@ use Rattle.attempts.specs.Attempt.{Attempt, taken, nacked, failed, attempt_at}
 use Rattle.attempts.specs.Inner.{Reads}
 use Rattle.attempts.proofs.AttemptRead.{taken_read}
 use Rattle.exchange.specs.declared.tries.Tried.{Tried}
-use Rattle.exchange.specs.declared.tries.Tried.TheVariants.{Once, Twice, Neither}
+use Rattle.exchange.specs.declared.tries.Tried.TheVariants.{Once, Twice}
 use Rattle.exchange.specs.Exchange.{Tries, once, twice, neither, on_second, on_first, tries_at}
 
 module _ (command : Bool) (run : List ℕ) (at : ℕ) where
@@ -37,5 +37,5 @@ module _ (command : Bool) (run : List ℕ) (at : ℕ) where
 pub once_not_twice : {P : Type 0} {tried : Tried} → tried ≡ Once → tried ≡ Twice → P
 once_not_twice {P} {tried} once_told told = let z : ◌≡◌ {A = ℕ} 0 1 = cc in let f : ⊥ = omega arith in absurd f
 
-pub neither_not_twice : {P : Type 0} {tried : Tried} → tried ≡ Neither → tried ≡ Twice → P
-neither_not_twice {P} {tried} none told = let z : ◌≡◌ {A = ℕ} 0 1 = cc in let f : ⊥ = omega arith in absurd f
+pub twice_not_once : {P : Type 0} {tried : Tried} → tried ≡ Twice → tried ≡ Once → P
+twice_not_once {P} {tried} twice_told told = once_not_twice told twice_told

@@ -1,5 +1,7 @@
 -- The three buffers of the judge: number 1 where one is too short, and what they hold afterwards.
 -- Assumes nothing.
+use Rattle.std.specs.Prelude.{Result, Ok, Err}
+use Rattle.exchange.specs.declared.judge.Accepted.{Accepted}
 use mathlib.Core.Path.{◌≡◌, sym, ap, ◌∙◌, subst}
 use mathlib.Core.Bool.{true, false, ◌&&◌}
 use mathlib.Core.List.{List}
@@ -16,15 +18,12 @@ use Rattle.refusal.specs.Number.{output_short, at_place}
 use Rattle.lists.specs.Starting.{starting}
 use Rattle.refusal.specs.declared.Refusal.{Refusal}
 use Rattle.lists.proofs.Cases.{both, both_first, both_second, le_or_lt}
-use Rattle.addresses.specs.declared.ExchangeKind.{ExchangeKind}
-use Rattle.exchange.specs.declared.judge.Judged.{Judged}
-use Rattle.exchange.specs.declared.judge.Judged.TheVariants.{Accepted, Refused}
 use Rattle.exchange.specs.declared.judge.Replies.{Replies as RepliesStruct}
 use Rattle.escapes.specs.Logical.{logicals_at}
 use Rattle.telegram.specs.Telegram.{command_room, reply_room}
-use Rattle.exchange.specs.Exchange.{Outcome, accepted, rejected, exchange, limit, rooms, judged}
+use Rattle.exchange.specs.Exchange.{Outcome, rejected, exchange, limit, rooms, judged}
 use Rattle.exchange.specs.View.{answered, command_of, first_of, second_of, Judges}
-use Rattle.exchange.specs.Inner.{outcome_as, replies_of}
+use Rattle.exchange.specs.Inner.{replies_of}
 
 -- ---- the rooms
 
@@ -70,7 +69,7 @@ module _ (run : List ℕ) (n : ℕ) (is : n ≡ min (length run) limit) where
 
 module _ (o : Outcome) (command first second : List ℕ) where
   -- a refusal leaves the buffers as they were
-  pub refuses : (why : Refusal) (r : Judged) → o ≡ rejected why → r ≡ Refused why → Judges id o r command command first first second second
+  pub refuses : (why : Refusal) (r : Result Accepted Refusal) → o ≡ rejected why → r ≡ Err why → Judges id o r command command first first second second
   refuses why r e is =
       record {
         result = is ∙ ap answered (sym e);
@@ -80,31 +79,28 @@ module _ (o : Outcome) (command first second : List ℕ) where
       }
 
   -- an acceptance fills them
-  pub accepts : (bytes run : List ℕ) (at : ℕ) (e : RepliesStruct) (kind : ExchangeKind) (commands replies read : ℕ) (command' first' second' : List ℕ)
-      → o ≡ replies_of e run at bytes → e.verdict ≡ Accepted kind commands replies read
+  pub accepts : (bytes run : List ℕ) (at : ℕ) (e : RepliesStruct) (command' first' second' : List ℕ)
+      → o ≡ replies_of (Ok e) run at bytes
       → command' ≡ starting bytes command
       → first' ≡ starting (logicals_at run e.len1 at) first
       → second' ≡ starting (logicals_at run e.len2 e.second) second
-      → Judges id o e.verdict command command' first first' second second'
-  accepts bytes run at e kind commands replies read command' first' second' is told c f s =
-      let one = logicals_at run e.len1 at in
-      let two = logicals_at run e.len2 e.second in
-      let whole : o ≡ accepted kind commands replies read bytes one two = is ∙ ap (outcome_as bytes one two) told in
+      → Judges id o (Ok e.accepted) command command' first first' second second'
+  accepts bytes run at e command' first' second' is c f s =
       record {
-        result = told ∙ ap answered (sym whole);
-        command_buffer = c ∙ ap (λ (x : Outcome). starting (command_of x) command) (sym whole);
-        first_buffer = f ∙ ap (λ (x : Outcome). starting (first_of x) first) (sym whole);
-        second_buffer = s ∙ ap (λ (x : Outcome). starting (second_of x) second) (sym whole);
+        result = ap answered (sym is);
+        command_buffer = c ∙ ap (λ (x : Outcome). starting (command_of x) command) (sym is);
+        first_buffer = f ∙ ap (λ (x : Outcome). starting (first_of x) first) (sym is);
+        second_buffer = s ∙ ap (λ (x : Outcome). starting (second_of x) second) (sym is);
       }
 
 -- the same outcome under another name
-pub judges_same : {o o' : Outcome} {r : Judged} {command command' first first' second second' : List ℕ} → o' ≡ o
+pub judges_same : {o o' : Outcome} {r : Result Accepted Refusal} {command command' first first' second second' : List ℕ} → o' ≡ o
     → Judges id o r command command' first first' second second' → Judges id o' r command command' first first' second second'
 judges_same {o} {o'} {r} {command} {command'} {first} {first'} {second} {second'} e j =
     subst (λ (x : Outcome). Judges id x r command command' first first' second second') (sym e) j
 
 -- the same promise with its result shown otherwise
-pub judges_shown : {A : Type 0} (shows : Judged → A) (o : Outcome) (j : Judged) (r : A) (command command' first first' second second' : List ℕ) → r ≡ shows j
+pub judges_shown : {A : Type 0} (shows : Result Accepted Refusal → A) (o : Outcome) (j : Result Accepted Refusal) (r : A) (command command' first first' second second' : List ℕ) → r ≡ shows j
     → Judges id o j command command' first first' second second' → Judges shows o r command command' first first' second second'
 judges_shown shows o j r command command' first first' second second' e judges =
     record {

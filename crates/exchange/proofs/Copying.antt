@@ -1,6 +1,6 @@
 -- Copying logical bytes that stand in a run: one turn of the loop, by what stands there for the next of them.
 -- Assumes nothing.
-use mathlib.Core.Path.{◌≡◌, sym, ap, ◌∙◌}
+use mathlib.Core.Path.{◌≡◌, sym, ap, ◌∙◌, subst}
 use mathlib.Core.List.{List, ◌∷◌, ◌++◌, append_assoc}
 use mathlib.Core.Logic.{◌⊎◌, ⊎_elim}
 use Prim.Native.Nat.{ℕ, ◌+◌, ◌-◌, ◌≤◌, ◌<◌}
@@ -93,3 +93,8 @@ module _ (run s rest old out : List ℕ) (i next : ℕ) (c : Copying run s rest 
           then = stored (esc + get_or run (next + 1) 0) (next + 2) whole (ap (λ (k : ℕ). drop k run) (sym two) ∙ rest_is run (next + 1) (b - esc) later second);
         })
         (λ plain. absurd (plain.0 (sym (head_is run next b later (as_plain plain.0 plain.1)) ∙ at_esc))) (kinds b)
+
+-- the same, where what a turn leaves is known by equations
+pub copying_as : (run s rest old : List ℕ) {out out' : List ℕ} (i : ℕ) {next next' : ℕ} → out ≡ out' → next ≡ next' → Copying run s rest old out' i next' → Copying run s rest old out i next
+copying_as run s rest old {out} {out'} i {next} {next'} out_is next_is c =
+    subst (λ (o : List ℕ). Copying run s rest old o i next) (sym out_is) (subst (λ (k : ℕ). Copying run s rest old out' i k) (sym next_is) c)

@@ -13,17 +13,14 @@ pub(crate) fn copy_logical(run: &[u8], at: usize, n: usize, out: &mut [u8])
     ensures { out.new ≡ starting (logicals_at run.now n at) out.old }
 {
     let mut next = at;
-    let mut i = 0;
-    while i < n {
+    for i in 0..n {
         let byte = run[next];
         if byte == ESC {
             out[i] = ESC + run[next + 1];
             next += 2;
-            i += 1;
         } else {
             out[i] = byte;
             next += 1;
-            i += 1;
         }
     }
 }

@@ -1,6 +1,6 @@
 -- An attempt on all the bytes that are there, as the code makes it.
 -- Assumes nothing.
-use mathlib.Core.Path.{◌≡◌, refl, sym, ap, ◌∙◌, subst}
+use mathlib.Core.Path.{◌≡◌, refl, ap, ◌∙◌, subst}
 use mathlib.Core.Bool.{Bool, true, false}
 use mathlib.Core.List.{List, [], ◌∷◌, ◌++◌, append-nil}
 use mathlib.Core.Logic.{⊎_elim}
@@ -9,28 +9,15 @@ use native.Mathlib.Omega.{arith}
 use lib.ListN.{length}
 use Rattle.refusal.specs.Number.{run_ended}
 use Rattle.refusal.specs.declared.Refusal.{Refusal}
-use Rattle.escapes.specs.Logical.{run_over, logical_at, logicals_at}
-use Rattle.checkbyte.specs.BitByBit.{EbusTables}
-use Rattle.checkbyte.proofs.CheckByte.{Bytes}
+use Rattle.escapes.specs.Logical.{run_over, logical_at}
 use Rattle.telegram.specs.Telegram.{collected, telegram_at}
-use Rattle.attempts.specs.declared.Attempt.{Attempt as AttemptStruct}
-use Rattle.attempts.specs.declared.Standing.{Standing}
-use Rattle.attempts.specs.Attempt.{Attempt, failed, ending_at, attempt_at, attempt_by}
-use Rattle.attempts.specs.View.{attempt_as, attempt_of}
-use Rattle.attempts.proofs.ByTables.{by_ebus}
+use Rattle.attempts.specs.Attempt.{Attempt, failed, ending_at, attempt_at}
 use Rattle.attempts.specs.Looks.{looked_at}
 use Rattle.attempts.proofs.LongerRun.{OtherAttempt, attempt_stays}
 use Rattle.listening.specs.declared.Listening.{Listening}
 use Rattle.listening.specs.Listening.{hand_room, is_command}
 use Rattle.feeding.specs.Inner.{step_by, step_on, unless_thrown, tries_on}
 use Rattle.listening.proofs.Undecided.{near, ended_looks, ended_short}
-
--- what the attempt says of itself is the attempt by the eBUS check
-pub attempt_told : {tables : List ℕ} → EbusTables tables → (command : Bool) (bytes : List ℕ) → Bytes bytes → (a : AttemptStruct) (standing : Standing)
-    → attempt_of a bytes 0 ≡ attempt_by tables command bytes 0 → a.standing ≡ standing
-    → attempt_as (logicals_at bytes a.len 0) a.next a.why standing ≡ attempt_at command bytes 0
-attempt_told tables command bytes each a standing is told =
-    ap (attempt_as (logicals_at bytes a.len 0) a.next a.why) (sym told) ∙ is ∙ by_ebus tables command bytes 0 each
 
 -- no bytes decide nothing
 none_ends : (command : Bool) → attempt_at command [] 0 ≡ failed (run_over [])

@@ -14,7 +14,7 @@ ghost use Rattle.feeding.specs.Inner.{state_of, command_due, fed_of, Ends, step_
 
 use crate::marks::{Marks, answers};
 use addresses::{ExchangeKind, kind};
-use attempts::{Standing, attempt_at};
+use attempts::attempt_at;
 use beginning::passed_over;
 use escapes::{ESC, SYN};
 use listening::{
@@ -44,23 +44,21 @@ fn due_behind(destination: u8) -> u8
 }
 
 // Puts an attempt's logical bytes at the start of an output with room for them. Nothing is looked at
-// but A9, since all else was judged before.
+// but A9, since all else was judged before. `exchange` has its own, since a public one could not ask
+// that they were judged.
 fn copy_logical(run: &[u8], len: usize, out: &mut [u8])
     requires { ((command : Bool) × Ready command run.now 0 len) × (len ≤ length out.old) }
     ensures { out.new ≡ starting (logicals_at run.now len 0) out.old }
 {
     let mut next = 0;
-    let mut i = 0;
-    while i < len {
+    for i in 0..len {
         let byte = run[next];
         if byte == ESC {
             out[i] = ESC + run[next + 1];
             next += 2;
-            i += 1;
         } else {
             out[i] = byte;
             next += 1;
-            i += 1;
         }
     }
 }
@@ -141,16 +139,6 @@ fn on_nacked(
     answers(m, start, nacked_twice(m.due < FIRST_REPLY), m.start + place)
 }
 
-// The larger of two numbers.
-fn larger(a: usize, b: usize) -> usize
-    ensures { result ≡ max a b }
-{
-    if a < b {
-        return b;
-    }
-    a
-}
-
 // How many bytes are thrown away behind so many in hand: SYN does so as long as SRC or DST of the
 // first command is not whole.
 fn thrown_away(due: u8, bytes: &[u8], held: usize) -> usize
@@ -218,21 +206,23 @@ fn decide(
     ensures ends { Ends result bytes.now }
 {
     let a = attempt_at(bytes, tables, m.due < FIRST_REPLY, 0);
-    let standing = a.standing;
-    let why = a.why;
-    let n = larger(held + 1, a.next);
-    match standing {
-        Standing::Taken => Step {
-            marks: on_taken(m, n, bytes, a.len, kept),
-            used: n,
-            open: false,
-        },
-        Standing::Nacked => Step {
-            marks: on_nacked(m, n, bytes, a.len, a.next - 1, kept),
-            used: n,
-            open: false,
-        },
-        Standing::Failed => on_failed(m, bytes, held, n, why),
+    let n = (held + 1).max(a.next);
+    match a.ended {
+        Ok(ended) => {
+            if ended.taken {
+                return Step {
+                    marks: on_taken(m, n, bytes, ended.len, kept),
+                    used: n,
+                    open: false,
+                };
+            }
+            Step {
+                marks: on_nacked(m, n, bytes, ended.len, a.next - 1, kept),
+                used: n,
+                open: false,
+            }
+        }
+        Err(why) => on_failed(m, bytes, held, n, why),
     }
 }
 

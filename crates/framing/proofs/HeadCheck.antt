@@ -1,6 +1,7 @@
 -- The code's head check, step by step: each outcome of the framed reader of scan frames by the bytes of the input that
 -- lead to it, in the order of the refusals; and what was read, by what the head check found.
 -- Assumes nothing.
+use Rattle.std.specs.Prelude.{Ok, Err}
 use mathlib.Core.Path.{◌≡◌, refl, sym, ap, ap₂, ◌∙◌}
 use mathlib.Core.Bool.{Bool, true, false, ◌&&◌, ◌||◌}
 use mathlib.Core.List.{List, [], ◌∷◌}
@@ -19,7 +20,6 @@ use Rattle.refusal.specs.declared.Refusal.{Refusal}
 use Rattle.framing.specs.Framing.{Framing, FrameRead, framed, wrong, passed, body_of, check_of, judged, framed_at}
 use Rattle.framing.specs.Layout.{broadcast, extended, length_for, check_bytes, closed, scan_framing}
 use Rattle.framing.specs.Head.{head_of}
-use Rattle.framing.specs.declared.Head.TheVariants.{Framed, Wrong}
 use Rattle.framing.proofs.Framing.{short_refused, long_judged}
 
 -- what stands between the subcommand and the check
@@ -50,16 +50,16 @@ module _ (input : List ℕ) (at : ℕ) (long : 5 ≤ length input - at) where
   opened F enough = long_judged F input at enough ∙ ap (λ (bytes : List ℕ). judged F at bytes (check_of (drop at input))) bytes_are
 
 module _ (one other : ℕ) (input : List ℕ) (at : ℕ) where
-  pub head_short : length input - at < 5 → head_of (framed_at (scan_framing one other) input at) ≡ Wrong (at_place frame_length 0)
+  pub head_short : length input - at < 5 → head_of (framed_at (scan_framing one other) input at) ≡ Err (at_place frame_length 0)
   head_short short = ap head_of (short_refused (scan_framing one other) input at short)
 
   module _ (long : 5 ≤ length input - at) where
-    pub head_first : (get_or input at 0 ≡ broadcast → ⊥) → head_of (framed_at (scan_framing one other) input at) ≡ Wrong (at_place frame_head at)
+    pub head_first : (get_or input at 0 ≡ broadcast → ⊥) → head_of (framed_at (scan_framing one other) input at) ≡ Err (at_place frame_head at)
     unfolding judged passed
     head_first other_byte = ap head_of (opened input at long (scan_framing one other) long) ∙ simp (ne_eqb broadcast (get_or input at 0) (λ e. other_byte (sym e)), add-zero at)
 
     module _ (first : get_or input at 0 ≡ broadcast) where
-      pub head_second : (get_or input (at + 1) 0 ≡ extended → ⊥) → head_of (framed_at (scan_framing one other) input at) ≡ Wrong (at_place frame_head (at + 1))
+      pub head_second : (get_or input (at + 1) 0 ≡ extended → ⊥) → head_of (framed_at (scan_framing one other) input at) ≡ Err (at_place frame_head (at + 1))
       unfolding judged passed
       head_second other_byte =
           ap head_of (opened input at long (scan_framing one other) long)
@@ -67,7 +67,7 @@ module _ (one other : ℕ) (input : List ℕ) (at : ℕ) where
 
       module _ (second : get_or input (at + 1) 0 ≡ extended) where
         pub head_third : (eqb (get_or input (at + 2) 0) one || eqb (get_or input (at + 2) 0) other) ≡ false
-            → head_of (framed_at (scan_framing one other) input at) ≡ Wrong (at_place subcommand_wrong (at + 2))
+            → head_of (framed_at (scan_framing one other) input at) ≡ Err (at_place subcommand_wrong (at + 2))
         unfolding judged passed
         head_third refuses =
             ap head_of (opened input at long (scan_framing one other) long)
@@ -75,7 +75,7 @@ module _ (one other : ℕ) (input : List ℕ) (at : ℕ) where
 
         module _ (takes : (eqb (get_or input (at + 2) 0) one || eqb (get_or input (at + 2) 0) other) ≡ true) where
           pub head_length : (length input - at ≡ length_for (get_or input (at + 2) 0) → ⊥)
-              → head_of (framed_at (scan_framing one other) input at) ≡ Wrong (at_place frame_length 0)
+              → head_of (framed_at (scan_framing one other) input at) ≡ Err (at_place frame_length 0)
           unfolding judged passed
           head_length other_length =
               ap head_of (opened input at long (scan_framing one other) long)
@@ -91,7 +91,7 @@ module _ (one other : ℕ) (input : List ℕ) (at : ℕ) where
             fits = eq-eqb (length (carried_from input at) + 5) (length_for (get_or input (at + 2) 0)) (omega (arith, carried_length input at long))
 
             pub head_check : same (check_of (drop at input)) (check_bytes (body_of (drop at input))) ≡ false
-                → head_of (framed_at (scan_framing one other) input at) ≡ Wrong (at_place frame_check (at + (length input - at - 2)))
+                → head_of (framed_at (scan_framing one other) input at) ≡ Err (at_place frame_check (at + (length input - at - 2)))
             unfolding judged passed
             head_check fails =
                 let size : suc (suc (suc (length (carried_from input at)))) ≡ length input - at - 2 = omega (arith, carried_length input at long) in
@@ -103,10 +103,10 @@ module _ (one other : ℕ) (input : List ℕ) (at : ℕ) where
                   fits,
                   sym (ap (λ (bytes : List ℕ). same (check_of (drop at input)) (check_bytes bytes)) (bytes_are input at long)) ∙ fails,
                 ))
-                ∙ ap (λ (n : ℕ). Wrong (at_place frame_check (at + n))) size
+                ∙ ap (λ (n : ℕ). Err (at_place frame_check (at + n))) size
 
             pub head_framed : same (check_of (drop at input)) (check_bytes (body_of (drop at input))) ≡ true
-                → head_of (framed_at (scan_framing one other) input at) ≡ Framed (get_or input (at + 2) 0)
+                → head_of (framed_at (scan_framing one other) input at) ≡ Ok (get_or input (at + 2) 0)
             unfolding judged passed
             head_framed right =
                 ap head_of (opened input at long (scan_framing one other) long)
@@ -164,10 +164,10 @@ closed_short (x ∷ y ∷ more) short = let z : ⊥ = omega arith in absurd z
 
 -- ---- what was read, where the head check keeps only the subcommand
 
-pub head_framed_is : (r : FrameRead) (s : ℕ) → head_of r ≡ Framed s → (first : List ℕ) × (carried : List ℕ) × (r ≡ framed first s carried)
+pub head_framed_is : (r : FrameRead) (s : ℕ) → head_of r ≡ Ok s → (first : List ℕ) × (carried : List ℕ) × (r ≡ framed first s carried)
 head_framed_is (framed first subcommand carried) s e = (first, carried, let same : subcommand ≡ s = cc in ap (λ (x : ℕ). framed first x carried) same)
 head_framed_is (wrong why) s e = let z : ◌≡◌ {A = ℕ} 0 1 = cc in absurd (omega arith)
 
-pub head_wrong_is : (r : FrameRead) (why : Refusal) → head_of r ≡ Wrong why → r ≡ wrong why
+pub head_wrong_is : (r : FrameRead) (why : Refusal) → head_of r ≡ Err why → r ≡ wrong why
 head_wrong_is (framed first subcommand carried) why e = let z : ◌≡◌ {A = ℕ} 0 1 = cc in absurd (omega arith)
 head_wrong_is (wrong other) why e = let same : other ≡ why = cc in ap wrong same

@@ -8,14 +8,13 @@
 ghost use Rattle.std.specs.Prelude.{◌≡◌, ◌||◌, ◌++◌, ◌+◌, ◌-◌, ◌≤◌, eqb, length, get_or, take, drop};
 ghost use mathlib.Mathlib.Logic.Function.Defs.{id};
 ghost use Rattle.lists.specs.Tests.{same};
-ghost use Rattle.refusal.specs.Number.{output_short, at_place};
 ghost use Rattle.refusal.specs.Output.{bytes, fitting, Wrote};
 ghost use Rattle.framing.specs.Framing.{framed_at};
 ghost use Rattle.framing.specs.Layout.{broadcast, extended, shortest, length_for, check_bytes, closed, scan_framing};
 ghost use Rattle.framing.specs.Head.{head_of};
 
 use refusal::{
-    FRAME_CHECK, FRAME_HEAD, FRAME_LENGTH, OUTPUT_SHORT, Refusal, SUBCOMMAND_WRONG, Written,
+    FRAME_CHECK, FRAME_HEAD, FRAME_LENGTH, OUTPUT_SHORT, Refusal, SUBCOMMAND_WRONG, refused,
 };
 
 // The broadcast address, and the command for extended functions.
@@ -46,13 +45,6 @@ pub const END_LENGTH: usize = 5;
 
 // A serial is below this.
 pub const SERIAL_LIMIT: u32 = 0x1000_0000;
-
-// What the head check finds: the subcommand of a frame that is whole and right, or the refusal.
-#[derive(Clone, Copy)]
-pub enum Head {
-    Framed(u8),
-    Wrong(Refusal),
-}
 
 // ---- the check
 
@@ -94,13 +86,6 @@ pub fn closed_at(input: &[u8], at: usize) -> bool
 
 // ---- reading
 
-// A refusal of the head check.
-fn wrong(number: u8, place: usize) -> Head
-    ensures { result ≡ Head.Wrong (at_place number place) }
-{
-    Head::Wrong(Refusal { number, place })
-}
-
 // Whether the subcommand is one of the two that a reader takes.
 fn takes(one: u8, other: u8, subcommand: u8) -> bool
     ensures { result ≡ (eqb subcommand one || eqb subcommand other) }
@@ -127,73 +112,63 @@ fn length_for(subcommand: u8) -> usize
 // The head check: the subcommand of a frame at this position that fills the rest of the input, where
 // it is one of the two that the caller takes, or the refusal. Behind the end of the input the rest is
 // empty, so too short.
-pub fn head_at(one: u8, other: u8, input: &[u8], at: usize) -> Head
+pub fn head_at(one: u8, other: u8, input: &[u8], at: usize) -> Result<u8, Refusal>
     ensures { result ≡ head_of (framed_at (scan_framing one other) input.now at) }
 {
     if input.len() < at {
-        return wrong(FRAME_LENGTH, 0);
+        return refused(FRAME_LENGTH, 0);
     }
     let left = input.len() - at;
     if left < END_LENGTH {
-        return wrong(FRAME_LENGTH, 0);
+        return refused(FRAME_LENGTH, 0);
     }
     if input[at] != BROADCAST {
-        return wrong(FRAME_HEAD, at);
+        return refused(FRAME_HEAD, at);
     }
     if input[at + 1] != EXTENDED {
-        return wrong(FRAME_HEAD, at + 1);
+        return refused(FRAME_HEAD, at + 1);
     }
     marked_at(one, other, input, at)
 }
 
 // The same, where the rest is long enough and its first bytes are right.
-fn marked_at(one: u8, other: u8, input: &[u8], at: usize) -> Head
+fn marked_at(one: u8, other: u8, input: &[u8], at: usize) -> Result<u8, Refusal>
     requires { (shortest + at ≤ length input.now) × (get_or input.now at 0 ≡ broadcast) × (get_or input.now (at + 1) 0 ≡ extended) }
     ensures { result ≡ head_of (framed_at (scan_framing one other) input.now at) }
 {
     let subcommand = input[at + 2];
     if !takes(one, other, subcommand) {
-        return wrong(SUBCOMMAND_WRONG, at + 2);
+        return refused(SUBCOMMAND_WRONG, at + 2);
     }
     let left = input.len() - at;
     if left != length_for(subcommand) {
-        return wrong(FRAME_LENGTH, 0);
+        return refused(FRAME_LENGTH, 0);
     }
     let body = left - 2;
     let check_place = at + body;
     if !check_passes(input, at, check_place) {
-        return wrong(FRAME_CHECK, check_place);
+        return refused(FRAME_CHECK, check_place);
     }
-    Head::Framed(subcommand)
+    Ok(subcommand)
 }
 
 // ---- writing
 
-// The refusal of a writer whose output has too little room.
-fn short() -> Written
-    ensures { result ≡ Written.Refused (at_place output_short 0) }
-{
-    Written::Refused(Refusal {
-        number: OUTPUT_SHORT,
-        place: 0,
-    })
-}
-
 // Writes the body and its check behind it, at the start of the output, where both fit.
-pub fn write_closed(body: &[u8], out: &mut [u8]) -> Written
+pub fn write_closed(body: &[u8], out: &mut [u8]) -> Result<usize, Refusal>
     ensures { Wrote id (fitting (length out.old) (bytes (body.now ++ check_bytes body.now))) result out.old out.new }
 {
     let size = body.len();
     let room = out.len();
     if room < 2 {
-        return short();
+        return refused(OUTPUT_SHORT, 0);
     }
     if room - 2 < size {
-        return short();
+        return refused(OUTPUT_SHORT, 0);
     }
     let check = check_of(body);
     lists::put(body, out);
     out[size] = check[0];
     out[size + 1] = check[1];
-    Written::Length(size + 2)
+    Ok(size + 2)
 }

@@ -2,12 +2,12 @@
 -- from its start.
 -- Assumes nothing.
 use mathlib.Core.Path.{◌≡◌, sym, ap, ap₂, ◌∙◌}
-use mathlib.Core.List.{List, [], ◌∷◌, ◌++◌, append_assoc, append-nil}
+use mathlib.Core.List.{List, [], ◌∷◌, ◌++◌, append_assoc}
 use Prim.Native.Nat.{ℕ, ◌+◌, ◌≤◌, ◌<◌}
 use native.Mathlib.Nat.{add-zero}
 use native.Mathlib.Numerals.{add-one}
 use native.Mathlib.Omega.{arith}
-use lib.ListN.{length, get_or, take, drop, set, replicate, length-drop, length-append, drop_of_length-le}
+use lib.ListN.{length, get_or, take, drop, set, length-drop, length-append}
 use lib.Seq.{drop-cons, drop-drop, get_or-drop, take-suc, take_at, take-length, take_all, take-append-add, take-append_seam, take-suc-set, set_at, length-take-le}
 use Rattle.lists.specs.Starting.{starting}
 
@@ -98,9 +98,3 @@ pub put_behind : (l : List ℕ) (n : ℕ) (bs rest : List ℕ) → n ≤ length 
 put_behind l n bs rest h =
     ap (λ (k : ℕ). take (k + length bs) (take n l ++ (bs ++ rest))) (sym (length-take-le n l h))
     ∙ take-append-add (take n l) (bs ++ rest) (length bs) ∙ ap (λ (x : List ℕ). take n l ++ x) (take-append_seam bs rest)
-
--- a list written with one value up to its end
-pub all_written : (v : ℕ) (old new : List ℕ) (i : ℕ) → i ≡ length old → new ≡ replicate i v ++ drop i old → new ≡ replicate (length old) v
-all_written v old new i e h =
-    let end : length old ≤ i = omega arith in
-    h ∙ ap (λ (l : List ℕ). replicate i v ++ l) (drop_of_length-le old end) ∙ append-nil (replicate i v) ∙ ap (λ (n : ℕ). replicate n v) e

@@ -2,9 +2,9 @@
 -- pass a test.
 pub mod Cases
 pub mod Filling
-pub mod Walk
 pub mod Tests
 pub mod All
 pub mod Position
 pub mod Counting
 pub mod Behind
+pub mod Std

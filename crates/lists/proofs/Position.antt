@@ -1,16 +1,37 @@
 -- Laws of `position`: where a number stands first.
 -- Assumes nothing.
 use mathlib.Core.Path.{◌≡◌, refl, sym, ap, ◌∙◌, subst}
-use mathlib.Core.Bool.{Bool}
+use mathlib.Core.Bool.{Bool, true, false}
 use mathlib.Core.List.{List, [], ◌∷◌}
-use Prim.Native.Nat.{ℕ, zero, suc, ◌<◌}
+use Prim.Native.Nat.{ℕ, zero, suc, ◌+◌, ◌≤◌, ◌<◌}
 use native.Mathlib.Omega.{arith}
-use lib.Dec.{eqb}
+use lib.Dec.{eqb, ltb}
 use lib.ListN.{length, get_or}
-use borrow.Author.Tests.{eqb-true, eq-eqb, ne_eqb}
+use Rattle.std.proofs.lemmas.List.Recursion.{is_position_or_len}
+use Rattle.std.proofs.lemmas.List.Sums.{prefix_len-le-length}
+use Rattle.std.specs.Prelude.{cond, Some, None, not}
+use Rattle.std.specs.List.{position as first_place, position_or_len}
+use Rattle.std.specs.Option.{unwrap_or}
+use borrow.Author.Tests.{eqb-true, eq-eqb, ne_eqb, ltb-false}
 use Rattle.lists.specs.Choice.{pick}
 use Rattle.lists.specs.Tests.{position}
 use Rattle.lists.proofs.Cases.{by_test}
+
+-- as the library finds it
+pub first_place_is : (x : ℕ) (xs : List ℕ) → position x xs ≡ unwrap_or (first_place (λ y. eqb y x) xs) (length xs)
+unfolding position
+first_place_is x xs =
+    let place = position_or_len (λ y. eqb y x) xs in
+    let found : position x xs ≡ place = is_position_or_len (position x) (λ y. eqb y x) refl (λ y rest. one (eqb y x) (position x rest)) xs in
+    let most : place ≤ length xs = prefix_len-le-length (λ y. not (eqb y x)) xs in
+    found ∙ by_test (ltb place (length xs))
+    (λ e. sym (ap (λ (b : Bool). unwrap_or (cond b (Some place) None) (length xs)) e))
+    (λ e. let end : place ≡ length xs = omega (arith, most, ltb-false place (length xs) e) in
+    end ∙ sym (ap (λ (b : Bool). unwrap_or (cond b (Some place) None) (length xs)) e))
+  where
+    one : (b : Bool) (n : ℕ) → pick b 0 (suc n) ≡ cond b 0 (1 + n)
+    one true n = refl
+    one false n = omega arith
 
 -- a number that stands in the list stands where it is found
 pub position_is : (x : ℕ) (xs : List ℕ) (i : ℕ) → i < length xs → get_or xs i 0 ≡ x → (position x xs < length xs) × (get_or xs (position x xs) 0 ≡ x)

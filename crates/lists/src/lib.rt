@@ -12,31 +12,20 @@ ghost use Rattle.lists.specs.Starting.{starting};
 pub fn smaller(a: usize, b: usize) -> usize
     ensures { result ≡ min a b }
 {
-    if a < b {
-        return a;
-    }
-    b
+    a.min(b)
 }
 
 // The byte at a place; 0 behind the end.
 pub fn byte_at(bytes: &[u8], at: usize) -> u8
     ensures { result ≡ get_or bytes.now at 0 }
 {
-    if at < bytes.len() {
-        return bytes[at];
-    }
-    0
+    bytes.get(at).copied().unwrap_or(0)
 }
 
-// Puts the bytes at the start of a lent output, as many as it holds; the bytes behind them stay. How
-// many that are is worked out first, so that the loop has one end and is a plain copy.
+// Puts the bytes at the start of a lent output, as many as it holds; the bytes behind them stay.
 pub fn put(bytes: &[u8], out: &mut [u8])
     ensures { out.new ≡ starting (take (length out.old) bytes.now) out.old }
 {
-    let n = smaller(bytes.len(), out.len());
-    let mut i = 0;
-    while i < n {
-        out[i] = bytes[i];
-        i += 1;
-    }
+    let n = bytes.len().min(out.len());
+    out[..n].copy_from_slice(&bytes[..n]);
 }

@@ -2,118 +2,173 @@
 use crate::device_commands::Asked;
 use crate::{device_commands, ebus_commands, help, listening_commands, modbus_commands};
 use desk::explain::explain;
-use desk::fault::{MISSING, NOT_SWITCH};
-use desk::hex::BytesRead;
-use desk::number::{NumberRead, last_number};
+use desk::fault::{Fault, Wrong};
+use desk::number::last_number;
 use desk::part::start_of;
-use desk::say::Page;
 use desk::state::{Desk, FULL, MOST_ROOM};
 use desk::{hex, word};
 
 // What a line is answered. An empty line and a comment are answered nothing.
 pub(crate) fn answer(rt: &impl Print, line: &[u8], d: Desk) -> Desk {
     let w = word::next(line, 0);
-    let from = w.from;
-    let at = w.to;
-    let name = word::part(line, from, at);
-    if name.len() == 0 {
+    let name = word::part(line, w.from, w.to);
+    if matches!(name, [] | [b'#', ..]) {
         return d;
     }
-    if name[0] == b'#' {
-        return d;
-    }
-    let e = d.echoed(rt, line);
-    if raildesk::takes_text(name) {
-        return raildesk::by_name(rt, name, line, at, e);
-    }
-    by_name(rt, name, word::uncommented(line), at, e)
+    by_name(rt, name, line, w.to, d.echoed(rt, line))
 }
 
-// The names of the commands on the bytes that the rest of the line is, of those that take no word,
-// and of those with words of their own. A command's number is the place of its name in this list. The
-// commands of events and those of Railbus have lists of their own.
+// The commands of events and those of Railbus are enums of their own.
 fn by_name(rt: &impl Print, name: &[u8], line: &[u8], at: usize, d: Desk) -> Desk {
-    let command = word::place(
-        b"ebus-check expand undo judge write-reply modbus-check read-request read-answer feed
-write-end forget table start continue listen close quit exit help ?
-kind write-command write-request write-found device offer scan room echo explain",
-        name,
-    );
-    if command < 9 {
-        return on_bytes(rt, command, line, at, d);
+    let words = word::uncommented(line);
+    if let Some(command) = Command::named(name) {
+        return command.obey(rt, words, at, d);
     }
-    if command < 20 {
-        return alone(rt, command, line, at, d);
+    if let Some(command) = eventdesk::Command::named(name) {
+        return command.obey(rt, words, at, d);
     }
-    if command < 30 {
-        return with_words(rt, command, line, at, d);
+    match raildesk::Command::named(name) {
+        Some(command) if command.takes_text() => command.obey(rt, line, at, d),
+        Some(command) => command.obey(rt, words, at, d),
+        None => d.unknown(rt, words),
     }
-    if eventdesk::knows(name) {
-        return eventdesk::by_name(rt, name, line, at, d);
-    }
-    if raildesk::knows(name) {
-        return raildesk::by_name(rt, name, line, at, d);
-    }
-    d.unknown(rt, line)
 }
 
-fn on_bytes(rt: &impl Print, command: usize, line: &[u8], at: usize, d: Desk) -> Desk {
-    let mut store = [0u8; hex::MOST];
-    let read = hex::bytes(line, at, &mut store);
-    match read {
-        BytesRead::Bytes(n) => {
-            let input = start_of(&store, n);
-            if command == 8 {
-                return listening_commands::feed(rt, input, d);
-            }
-            d.with_page(with_bytes(rt, command, input, d.room, d.page))
+// The commands on the bytes that the rest of the line is, those that take no word, and those with
+// words of their own.
+#[derive(Clone, Copy)]
+enum Command {
+    EbusCheck,
+    Expand,
+    Undo,
+    Judge,
+    WriteReply,
+    ModbusCheck,
+    ReadRequest,
+    ReadAnswer,
+    Feed,
+    WriteEnd,
+    Forget,
+    Table,
+    Start,
+    Continue,
+    Listen,
+    Close,
+    Quit,
+    Help,
+    Kind,
+    WriteCommand,
+    WriteRequest,
+    WriteFound,
+    Device,
+    Offer,
+    Scan,
+    Room,
+    Echo,
+    Explain,
+}
+
+impl Command {
+    fn named(name: &[u8]) -> Option<Command> {
+        match name {
+            b"ebus-check" => Some(Command::EbusCheck),
+            b"expand" => Some(Command::Expand),
+            b"undo" => Some(Command::Undo),
+            b"judge" => Some(Command::Judge),
+            b"write-reply" => Some(Command::WriteReply),
+            b"modbus-check" => Some(Command::ModbusCheck),
+            b"read-request" => Some(Command::ReadRequest),
+            b"read-answer" => Some(Command::ReadAnswer),
+            b"feed" => Some(Command::Feed),
+            b"write-end" => Some(Command::WriteEnd),
+            b"forget" => Some(Command::Forget),
+            b"table" => Some(Command::Table),
+            b"start" => Some(Command::Start),
+            b"continue" => Some(Command::Continue),
+            b"listen" => Some(Command::Listen),
+            b"close" => Some(Command::Close),
+            b"quit" | b"exit" => Some(Command::Quit),
+            b"help" | b"?" => Some(Command::Help),
+            b"kind" => Some(Command::Kind),
+            b"write-command" => Some(Command::WriteCommand),
+            b"write-request" => Some(Command::WriteRequest),
+            b"write-found" => Some(Command::WriteFound),
+            b"device" => Some(Command::Device),
+            b"offer" => Some(Command::Offer),
+            b"scan" => Some(Command::Scan),
+            b"room" => Some(Command::Room),
+            b"echo" => Some(Command::Echo),
+            b"explain" => Some(Command::Explain),
+            _ => None,
         }
-        BytesRead::Wrong(why) => d.wrong(rt, why),
     }
-}
 
-fn with_bytes(rt: &impl Print, command: usize, input: &[u8], room: usize, page: Page) -> Page {
-    match command {
-        0 => ebus_commands::check(rt, input, page),
-        1 => ebus_commands::expand(rt, input, room, page),
-        2 => ebus_commands::undo(rt, input, room, page),
-        3 => ebus_commands::judge(rt, input, room, page),
-        4 => ebus_commands::write_reply(rt, input, room, page),
-        5 => modbus_commands::check(rt, input, page),
-        6 => modbus_commands::read_request(rt, input, page),
-        _ => modbus_commands::read_answer(rt, input, page),
+    // .. on the rest of the line, from `at` on.
+    fn obey(self, rt: &impl Print, line: &[u8], at: usize, d: Desk) -> Desk {
+        match self {
+            Command::EbusCheck
+            | Command::Expand
+            | Command::Undo
+            | Command::Judge
+            | Command::WriteReply
+            | Command::ModbusCheck
+            | Command::ReadRequest
+            | Command::ReadAnswer
+            | Command::Feed => self.on_bytes(rt, line, at, d),
+            Command::Kind => ebus_commands::kind(rt, line, at, d),
+            Command::WriteCommand => ebus_commands::write_command(rt, line, at, d),
+            Command::WriteRequest => modbus_commands::write_request(rt, line, at, d),
+            Command::WriteFound => modbus_commands::write_found(rt, line, at, d),
+            Command::Device => device_commands::device(rt, line, at, d),
+            Command::Offer => device_commands::offer(rt, line, at, d),
+            Command::Scan => device_commands::scan(rt, line, at, d),
+            Command::Room => room(rt, line, at, d),
+            Command::Echo => echo(rt, line, at, d),
+            Command::Explain => explain(rt, line, at, d),
+            _ => self.alone(rt, line, at, d),
+        }
     }
-}
 
-fn alone(rt: &impl Print, command: usize, line: &[u8], at: usize, d: Desk) -> Desk {
-    if word::more(line, at) {
-        return d.extra(rt, line, at);
+    fn on_bytes(self, rt: &impl Print, line: &[u8], at: usize, d: Desk) -> Desk {
+        let mut store = [0u8; hex::MOST];
+        match hex::bytes(line, at, &mut store) {
+            Ok(n) => self.with_bytes(rt, start_of(&store, n), d),
+            Err(why) => d.wrong(rt, why),
+        }
     }
-    match command {
-        9 => d.with_page(modbus_commands::write_end(rt, d.room, d.page)),
-        10 => d.forgotten().ok(rt),
-        11 => device_commands::show(rt, d),
-        12 => device_commands::request(rt, Asked::Start, d),
-        13 => device_commands::request(rt, Asked::Continue, d),
-        14 => listening_commands::listen(rt, d),
-        15 => listening_commands::close(rt, d),
-        16 | 17 => d.ended(),
-        _ => d.with_page(help::commands(rt, d.page)),
-    }
-}
 
-fn with_words(rt: &impl Print, command: usize, line: &[u8], at: usize, d: Desk) -> Desk {
-    match command {
-        20 => ebus_commands::kind(rt, line, at, d),
-        21 => ebus_commands::write_command(rt, line, at, d),
-        22 => modbus_commands::write_request(rt, line, at, d),
-        23 => modbus_commands::write_found(rt, line, at, d),
-        24 => device_commands::device(rt, line, at, d),
-        25 => device_commands::offer(rt, line, at, d),
-        26 => device_commands::scan(rt, line, at, d),
-        27 => room(rt, line, at, d),
-        28 => echo(rt, line, at, d),
-        _ => explain(rt, line, at, d),
+    fn with_bytes(self, rt: &impl Print, input: &[u8], d: Desk) -> Desk {
+        let room = d.room;
+        match self {
+            Command::EbusCheck => d.with_page(ebus_commands::check(rt, input, d.page)),
+            Command::Expand => d.with_page(ebus_commands::expand(rt, input, room, d.page)),
+            Command::Undo => d.with_page(ebus_commands::undo(rt, input, room, d.page)),
+            Command::Judge => d.with_page(ebus_commands::judge(rt, input, room, d.page)),
+            Command::WriteReply => {
+                d.with_page(ebus_commands::write_reply(rt, input, room, d.page))
+            }
+            Command::ModbusCheck => d.with_page(modbus_commands::check(rt, input, d.page)),
+            Command::ReadRequest => d.with_page(modbus_commands::read_request(rt, input, d.page)),
+            Command::ReadAnswer => d.with_page(modbus_commands::read_answer(rt, input, d.page)),
+            _ => listening_commands::feed(rt, input, d),
+        }
+    }
+
+    fn alone(self, rt: &impl Print, line: &[u8], at: usize, d: Desk) -> Desk {
+        if let Err(why) = word::nothing_more(line, at) {
+            return d.wrong(rt, why);
+        }
+        match self {
+            Command::WriteEnd => d.with_page(modbus_commands::write_end(rt, d.room, d.page)),
+            Command::Forget => d.forgotten().ok(rt),
+            Command::Table => device_commands::show(rt, d),
+            Command::Start => device_commands::request(rt, Asked::Start, d),
+            Command::Continue => device_commands::request(rt, Asked::Continue, d),
+            Command::Listen => listening_commands::listen(rt, d),
+            Command::Close => listening_commands::close(rt, d),
+            Command::Quit => d.ended(),
+            _ => d.with_page(help::commands(rt, d.page)),
+        }
     }
 }
 
@@ -122,26 +177,27 @@ fn room(rt: &impl Print, line: &[u8], at: usize, d: Desk) -> Desk {
     if !word::more(line, at) {
         return d.with_room(FULL).ok(rt);
     }
-    let read = last_number(line, at, MOST_ROOM as u64);
-    match read {
-        NumberRead::Wrong(why) => d.wrong(rt, why),
-        NumberRead::Number(n, _) => d.with_room(n as usize).ok(rt),
+    match last_number(line, at, MOST_ROOM as u64) {
+        Ok(n) => d.with_room(n as usize).ok(rt),
+        Err(why) => d.wrong(rt, why),
+    }
+}
+
+// Whether the last word of the line is on, or off.
+fn switch_at(line: &[u8], at: usize) -> Result<bool, Fault> {
+    let w = word::due(line, at)?;
+    word::nothing_more(line, w.to)?;
+    match word::part(line, w.from, w.to) {
+        b"on" => Ok(true),
+        b"off" => Ok(false),
+        _ => Err(Wrong::NotSwitch.at(w.from)),
     }
 }
 
 // `echo on` repeats each command from the next line on, `echo off` no more.
 fn echo(rt: &impl Print, line: &[u8], at: usize, d: Desk) -> Desk {
-    let w = word::next(line, at);
-    let name = word::part(line, w.from, w.to);
-    if name.len() == 0 {
-        return d.wrong_at(rt, MISSING, w.from);
+    match switch_at(line, at) {
+        Ok(on) => d.with_echo(on).ok(rt),
+        Err(why) => d.wrong(rt, why),
     }
-    if word::more(line, w.to) {
-        return d.extra(rt, line, w.to);
-    }
-    let switch = word::place(b"off on", name);
-    if 1 < switch {
-        return d.wrong_at(rt, NOT_SWITCH, w.from);
-    }
-    d.with_echo(switch == 1).ok(rt)
 }

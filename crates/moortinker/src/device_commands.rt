@@ -1,16 +1,17 @@
 // The tool's table, and the devices' side of a scan over it. Each call of the library is lent the
 // rows that the table has.
 use desk::expected::refused_frame;
-use desk::fault::{Fault, TABLE_FULL};
-use desk::hex::BytesRead;
-use desk::number::{NumberRead, digits, fault_of, last_number, one_byte};
-use desk::part::{column, lent, lent_serials, serials_of, start_of};
+use desk::fault::{Fault, Wrong};
+use desk::number::{eight_digits, last_number, one_byte};
+use desk::part::{lent, start_of};
 use desk::say::{Page, one, three, two};
 use desk::state::{Desk, FILL, FULL, MOST_ROOM, MOST_ROWS, Table};
+use desk::texts::Text;
 use desk::{hex, say, texts};
-use devices::{Response, Scanned};
+use devices::Scanned;
 use eventdesk::reasons::OF_TABLE;
 use eventdesk::showing::say_valid;
+use refusal::Refusal;
 
 // A mark of any byte can be tried.
 const MOST_MARK: u64 = 255;
@@ -19,59 +20,38 @@ const MOST_MARK: u64 = 255;
 
 // A row as a line has it.
 #[derive(Clone, Copy)]
-enum RowRead {
-    Row { serial: u32, address: u8, mark: u8 },
-    Wrong(Fault),
+struct Row {
+    serial: u32,
+    address: u8,
+    mark: u8,
 }
 
-fn read_row(line: &[u8], at: usize) -> RowRead {
-    let first = digits(line, at, 8);
-    let NumberRead::Number(serial, second_at) = first else {
-        return RowRead::Wrong(fault_of(first));
-    };
-    let second = one_byte(line, second_at);
-    let NumberRead::Number(address, third_at) = second else {
-        return RowRead::Wrong(fault_of(second));
-    };
-    let third = last_number(line, third_at, MOST_MARK);
-    let NumberRead::Number(mark, _) = third else {
-        return RowRead::Wrong(fault_of(third));
-    };
-    RowRead::Row {
-        serial: (serial % 0x100000000) as u32,
-        address: (address % 256) as u8,
+fn row_at(line: &[u8], at: usize) -> Result<Row, Fault> {
+    let (serial, address_at) = eight_digits(line, at)?;
+    let (address, mark_at) = one_byte(line, address_at)?;
+    let mark = last_number(line, mark_at, MOST_MARK)?;
+    Ok(Row {
+        serial,
+        address,
         mark: (mark % 256) as u8,
-    }
+    })
 }
 
 pub(crate) fn device(rt: &impl Print, line: &[u8], at: usize, d: Desk) -> Desk {
-    let read = read_row(line, at);
-    match read {
-        RowRead::Wrong(why) => d.wrong(rt, why),
-        RowRead::Row {
-            serial,
-            address,
-            mark,
-        } => {
-            let table = d.table;
-            let row = table.rows;
-            if MOST_ROWS <= row {
-                return d.wrong_at(rt, TABLE_FULL, at);
+    match row_at(line, at) {
+        Ok(row) => {
+            let mut table = d.table;
+            let n = table.rows;
+            if MOST_ROWS <= n {
+                return d.wrong_at(rt, Wrong::TableFull, at);
             }
-            let mut serials = table.serials;
-            let mut addresses = table.addresses;
-            let mut marks = table.marks;
-            serials[row] = serial;
-            addresses[row] = address;
-            marks[row] = mark;
-            let longer = Table {
-                rows: row + 1,
-                serials,
-                addresses,
-                marks,
-            };
-            d.with_table(longer).ok(rt)
+            table.serials[n] = row.serial;
+            table.addresses[n] = row.address;
+            table.marks[n] = row.mark;
+            table.rows = n + 1;
+            d.with_table(table).ok(rt)
         }
+        Err(why) => d.wrong(rt, why),
     }
 }
 
@@ -81,14 +61,14 @@ pub(crate) fn show(rt: &impl Print, d: Desk) -> Desk {
     let serials = table.serials;
     let addresses = table.addresses;
     let marks = table.marks;
-    let s = serials_of(&serials, rows);
-    let a = column(&addresses, rows);
-    let m = column(&marks, rows);
-    let head = say_valid(rt, table::valid(s, a, m), OF_TABLE, d);
+    let s = start_of(&serials, rows);
+    let a = start_of(&addresses, rows);
+    let m = start_of(&marks, rows);
+    let head = say_valid(rt, table::valid(s, a, m), &OF_TABLE, d);
     d.with_page(say_rows(rt, rows, s, a, m, head))
 }
 
-// The first n rows.
+// The first n rows. A row of the table has a mark. A device that a scan found has none.
 fn say_rows<'a>(
     rt: &impl Print,
     n: usize,
@@ -98,45 +78,22 @@ fn say_rows<'a>(
     page: Page,
 ) -> Page {
     let mut p = page;
-    for i in 0..n {
-        p = say_row(rt, i, serials, addresses, marks, p);
+    for (i, (serial, address)) in serials.iter().zip(addresses.iter()).take(n).enumerate() {
+        p = match marks.get(i) {
+            Some(mark) => say_marked(rt, *serial, *address, *mark, p),
+            None => say_found(rt, *serial, *address, p),
+        };
     }
     p
 }
 
-// A row of the table has a mark. A device that a scan found has none.
-fn say_row(
-    rt: &impl Print,
-    i: usize,
-    serials: &[u32],
-    addresses: &[u8],
-    marks: &[u8],
-    page: Page,
-) -> Page {
-    if serials.len() <= i {
-        return page;
-    }
-    if addresses.len() <= i {
-        return page;
-    }
-    if marks.len() <= i {
-        return say_found(rt, serials[i], addresses[i], page);
-    }
-    say_marked(rt, serials[i], addresses[i], marks[i], page)
-}
-
 fn say_found(rt: &impl Print, serial: u32, address: u8, page: Page) -> Page {
-    texts::text(
-        rt,
-        page,
-        texts::ROW_FOUND,
-        two(serial as u64, address as u64),
-    )
+    texts::filled(rt, page, Text::RowFound, two(serial as u64, address as u64))
 }
 
 fn say_marked(rt: &impl Print, serial: u32, address: u8, mark: u8, page: Page) -> Page {
     let row = three(serial as u64, address as u64, mark as u64);
-    texts::text(rt, page, texts::ROW_MARKED, row)
+    texts::filled(rt, page, Text::RowMarked, row)
 }
 
 // ---- requests
@@ -170,10 +127,9 @@ fn ask(rt: &impl Print, asked: Asked, frame: &[u8], d: Desk) -> Desk {
 
 pub(crate) fn offer(rt: &impl Print, line: &[u8], at: usize, d: Desk) -> Desk {
     let mut store = [0u8; hex::MOST];
-    let read = hex::bytes(line, at, &mut store);
-    match read {
-        BytesRead::Bytes(n) => ask(rt, Asked::Frame, start_of(&store, n), d),
-        BytesRead::Wrong(why) => d.wrong(rt, why),
+    match hex::bytes(line, at, &mut store) {
+        Ok(n) => ask(rt, Asked::Frame, start_of(&store, n), d),
+        Err(why) => d.wrong(rt, why),
     }
 }
 
@@ -183,12 +139,12 @@ fn response(
     table: Table,
     marks: &mut [u8],
     answer: &mut [u8],
-) -> Response {
+) -> Result<Option<usize>, Refusal> {
     let rows = table.rows;
     let serials = table.serials;
     let addresses = table.addresses;
-    let s = serials_of(&serials, rows);
-    let a = column(&addresses, rows);
+    let s = start_of(&serials, rows);
+    let a = start_of(&addresses, rows);
     match asked {
         Asked::Start => devices::start(s, a, marks, answer),
         Asked::Continue => devices::resume(s, a, marks, answer),
@@ -196,24 +152,29 @@ fn response(
     }
 }
 
-fn say_answer(rt: &impl Print, a: Response, frame: &[u8], answer: &[u8], page: Page) -> Page {
+fn say_answer(
+    rt: &impl Print,
+    a: Result<Option<usize>, Refusal>,
+    frame: &[u8],
+    answer: &[u8],
+    page: Page,
+) -> Page {
     match a {
-        Response::Answered(n) => say::named(rt, page, texts::ANSWER, start_of(answer, n)),
-        Response::Silent => texts::plain(rt, page, texts::SILENCE),
-        Response::Refused(why) => refused_frame(rt, page, why, frame),
+        Ok(Some(n)) => say::named(rt, page, Text::Answer, start_of(answer, n)),
+        Ok(None) => texts::plain(rt, page, Text::Silence),
+        Err(why) => refused_frame(rt, page, why, frame),
     }
 }
 
 // ---- a whole scan
 
 pub(crate) fn scan(rt: &impl Print, line: &[u8], at: usize, d: Desk) -> Desk {
-    let read = last_number(line, at, u64::MAX);
-    match read {
-        NumberRead::Wrong(why) => d.wrong(rt, why),
-        NumberRead::Number(cap, _) => {
+    match last_number(line, at, u64::MAX) {
+        Ok(cap) => {
             let after = scanned(rt, cap as usize, d.table, d.room, d.page);
             d.with_table(after.table).with_page(after.page)
         }
+        Err(why) => d.wrong(rt, why),
     }
 }
 
@@ -232,10 +193,10 @@ fn scanned(rt: &impl Print, cap: usize, table: Table, room: usize, page: Page) -
     let addresses = table.addresses;
     let mut marks = table.marks;
     let s = devices::scan(
-        serials_of(&serials, rows),
-        column(&addresses, rows),
+        start_of(&serials, rows),
+        start_of(&addresses, rows),
         lent(&mut marks, rows),
-        lent_serials(&mut found_serials, room),
+        lent(&mut found_serials, room),
         lent(&mut found_addresses, room),
         cap,
     );
@@ -249,13 +210,13 @@ fn scanned(rt: &impl Print, cap: usize, table: Table, room: usize, page: Page) -
 // answers and how many devices were heard.
 #[derive(Clone, Copy)]
 struct Ending {
-    text: u8,
+    text: Text,
     requests: usize,
     skipped: usize,
     heard: usize,
 }
 
-fn ended(text: u8, requests: usize, skipped: usize, heard: usize) -> Ending {
+fn ended(text: Text, requests: usize, skipped: usize, heard: usize) -> Ending {
     Ending {
         text,
         requests,
@@ -268,26 +229,26 @@ fn ended(text: u8, requests: usize, skipped: usize, heard: usize) -> Ending {
 // end. An unfinished one has heard a device at each request.
 fn say_scan<'a>(
     rt: &impl Print,
-    s: Scanned,
+    s: Result<Scanned, Refusal>,
     serials: &'a [u32],
     addresses: &'a [u8],
     page: Page,
 ) -> Page {
     match s {
-        Scanned::Complete { requests, skipped } => {
+        Ok(Scanned::Complete { requests, skipped }) => {
             let heard = if requests == 0 { 0 } else { requests - 1 };
-            let e = ended(texts::COMPLETE, requests, skipped, heard);
+            let e = ended(Text::Complete, requests, skipped, heard);
             say_ending(rt, e, serials, addresses, page)
         }
-        Scanned::Nobody { requests, skipped } => {
-            let e = ended(texts::NOBODY, requests, skipped, 0);
+        Ok(Scanned::Nobody { requests, skipped }) => {
+            let e = ended(Text::Nobody, requests, skipped, 0);
             say_ending(rt, e, serials, addresses, page)
         }
-        Scanned::Unfinished { requests, skipped } => {
-            let e = ended(texts::UNFINISHED, requests, skipped, requests);
+        Ok(Scanned::Unfinished { requests, skipped }) => {
+            let e = ended(Text::Unfinished, requests, skipped, requests);
             say_ending(rt, e, serials, addresses, page)
         }
-        Scanned::Refused(why) => say::refused(rt, page, why),
+        Err(why) => say::refused(rt, page, why),
     }
 }
 
@@ -298,7 +259,7 @@ fn say_ending<'a>(
     addresses: &'a [u8],
     page: Page,
 ) -> Page {
-    let sent = texts::text(rt, page, e.text, one(e.requests as u64));
+    let sent = texts::filled(rt, page, e.text, one(e.requests as u64));
     let said = say::skipped(rt, sent, e.skipped);
     say_rows(rt, e.heard, serials, addresses, b"", said)
 }

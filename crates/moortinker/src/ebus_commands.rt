@@ -1,17 +1,19 @@
 // The commands of eBUS. Each is one call of the library.
 use addresses::ExchangeKind;
 use desk::expected::refused_run;
-use desk::hex::BytesRead;
-use desk::number::{Four, FourRead, NumberRead, four_bytes, one_byte};
+use desk::fault::Fault;
+use desk::number::{Four, four_bytes, last_byte};
 use desk::part::{lent, start_of};
 use desk::say::{Page, one, three};
 use desk::state::{Desk, FILL, FULL};
-use desk::{hex, say, texts, word};
-use exchange::judge::Judged;
+use desk::texts::Text;
+use desk::{hex, say, texts};
+use exchange::judge::Accepted;
+use refusal::Refusal;
 
 pub(crate) fn check(rt: &impl Print, input: &[u8], page: Page) -> Page {
     let byte = checkbyte::ebus_check(input);
-    texts::text(rt, page, texts::EBUS_CHECK, one(byte as u64))
+    texts::filled(rt, page, Text::EbusCheck, one(byte as u64))
 }
 
 pub(crate) fn expand(rt: &impl Print, input: &[u8], room: usize, page: Page) -> Page {
@@ -33,25 +35,20 @@ pub(crate) fn write_reply(rt: &impl Print, input: &[u8], room: usize, page: Page
 }
 
 pub(crate) fn kind(rt: &impl Print, line: &[u8], at: usize, d: Desk) -> Desk {
-    let read = one_byte(line, at);
-    match read {
-        NumberRead::Wrong(why) => d.wrong(rt, why),
-        NumberRead::Number(destination, next) => {
-            if word::more(line, next) {
-                return d.extra(rt, line, next);
-            }
-            let found = addresses::kind((destination % 256) as u8);
-            let said = texts::plain(rt, d.page, kind_text(found));
+    match last_byte(line, at) {
+        Ok(destination) => {
+            let said = texts::plain(rt, d.page, kind_text(addresses::kind(destination)));
             d.with_page(say::byte(rt, said, b'\n'))
         }
+        Err(why) => d.wrong(rt, why),
     }
 }
 
-fn kind_text(k: ExchangeKind) -> u8 {
+fn kind_text(k: ExchangeKind) -> Text {
     match k {
-        ExchangeKind::Broadcast => texts::BROADCAST,
-        ExchangeKind::InitiatorInitiator => texts::INITIATOR_INITIATOR,
-        ExchangeKind::InitiatorTarget => texts::INITIATOR_TARGET,
+        ExchangeKind::Broadcast => Text::Broadcast,
+        ExchangeKind::InitiatorInitiator => Text::InitiatorInitiator,
+        ExchangeKind::InitiatorTarget => Text::InitiatorTarget,
     }
 }
 
@@ -82,7 +79,7 @@ pub(crate) fn judge(rt: &impl Print, run: &[u8], room: usize, page: Page) -> Pag
 // `before` bytes were heard before those of the run.
 pub(crate) fn say_judged<'a>(
     rt: &impl Print,
-    judged: Judged,
+    judged: Result<Accepted, Refusal>,
     run: &'a [u8],
     before: usize,
     command: &'a [u8],
@@ -91,13 +88,15 @@ pub(crate) fn say_judged<'a>(
     page: Page,
 ) -> Page {
     match judged {
-        Judged::Refused(why) => refused_run(rt, page, why, run, before),
-        Judged::Accepted(kind, commands, replies, bytes) => {
-            let a = texts::plain(rt, page, texts::ACCEPTED);
-            let b = texts::plain(rt, a, kind_text(kind));
-            let attempts = three(commands as u64, replies as u64, bytes as u64);
-            let c = texts::text(rt, b, texts::ATTEMPTS, attempts);
-            let d = telegram(rt, texts::COMMAND, command, 4, c);
+        Err(why) => refused_run(rt, page, why, run, before),
+        Ok(exchange) => {
+            let replies = exchange.reply_attempts;
+            let a = texts::plain(rt, page, Text::Accepted);
+            let b = texts::plain(rt, a, kind_text(exchange.kind));
+            let commands = exchange.command_attempts as u64;
+            let attempts = three(commands, replies as u64, exchange.read as u64);
+            let c = texts::filled(rt, b, Text::Attempts, attempts);
+            let d = telegram(rt, Text::Command, command, 4, c);
             say_replies(rt, first, second, replies, d)
         }
     }
@@ -106,14 +105,14 @@ pub(crate) fn say_judged<'a>(
 // How long the telegram at the start of a buffer is, whose LEN stands at this place: LEN, its data
 // and the check byte stand behind those before it.
 fn telegram_length(buffer: &[u8], at: usize) -> usize {
-    if buffer.len() <= at {
-        return 0;
+    match buffer.get(at) {
+        Some(len) => at + 2 + *len as usize,
+        None => 0,
     }
-    at + 2 + buffer[at] as usize
 }
 
 // A line with the telegram at the start of a buffer.
-fn telegram(rt: &impl Print, name: u8, buffer: &[u8], at: usize, page: Page) -> Page {
+fn telegram(rt: &impl Print, name: Text, buffer: &[u8], at: usize, page: Page) -> Page {
     let n = telegram_length(buffer, at);
     say::named(rt, page, name, start_of(buffer, n))
 }
@@ -128,35 +127,33 @@ fn say_replies<'a>(
 ) -> Page {
     let data = replies::reply_data(first, second, replies);
     if replies < 1 {
-        return say::named(rt, page, texts::DATA, data);
+        return say::named(rt, page, Text::Data, data);
     }
-    let a = telegram(rt, texts::REPLY_1, first, 0, page);
+    let a = telegram(rt, Text::Reply1, first, 0, page);
     if replies < 2 {
-        return say::named(rt, a, texts::DATA, data);
+        return say::named(rt, a, Text::Data, data);
     }
-    let b = telegram(rt, texts::REPLY_2, second, 0, a);
-    say::named(rt, b, texts::DATA, data)
+    let b = telegram(rt, Text::Reply2, second, 0, a);
+    say::named(rt, b, Text::Data, data)
 }
 
 // ---- writing a command: SRC, DST, PB and SB, then the data
 
-pub(crate) fn write_command(rt: &impl Print, line: &[u8], at: usize, d: Desk) -> Desk {
-    let read = four_bytes(line, at, true);
-    match read {
-        FourRead::Wrong(why) => d.wrong(rt, why),
-        FourRead::Bytes(head, data_at) => write_behind(rt, head, line, data_at, d),
-    }
+// .. and how many bytes the data has, which is put at the start of the output.
+fn command_at(line: &[u8], at: usize, out: &mut [u8]) -> Result<(Four, usize), Fault> {
+    let (head, data_at) = four_bytes(line, at, true)?;
+    let n = hex::bytes(line, data_at, out)?;
+    Ok((head, n))
 }
 
-fn write_behind(rt: &impl Print, head: Four, line: &[u8], data_at: usize, d: Desk) -> Desk {
+pub(crate) fn write_command(rt: &impl Print, line: &[u8], at: usize, d: Desk) -> Desk {
     let mut store = [0u8; hex::MOST];
-    let read = hex::bytes(line, data_at, &mut store);
-    match read {
-        BytesRead::Wrong(why) => d.wrong(rt, why),
-        BytesRead::Bytes(n) => {
+    match command_at(line, at, &mut store) {
+        Ok((head, n)) => {
             let data = start_of(&store, n);
             d.with_page(write_whole(rt, head, data, d.room, d.page))
         }
+        Err(why) => d.wrong(rt, why),
     }
 }
 

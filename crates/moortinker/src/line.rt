@@ -26,13 +26,8 @@ pub(crate) fn new() -> Window {
 impl Window {
     // The line that ends at this newline is done.
     pub(crate) fn past(self, newline: usize) -> Window {
-        let from = if newline < usize::MAX {
-            newline + 1
-        } else {
-            newline
-        };
         Window {
-            from,
+            from: newline.saturating_add(1),
             to: self.to,
             skipping: false,
         }
@@ -57,30 +52,20 @@ impl Window {
     }
 }
 
-// The end of a line without a carriage return before its newline.
-pub(crate) fn trimmed(input: &[u8], from: usize, to: usize) -> usize {
-    if to <= from {
-        return to;
+// A line without a carriage return before its newline.
+pub(crate) fn trimmed(line: &[u8]) -> &[u8] {
+    match line {
+        [rest @ .., b'\r'] => rest,
+        _ => line,
     }
-    let last = to - 1;
-    if input.len() <= last {
-        return to;
-    }
-    if input[last] == b'\r' {
-        return last;
-    }
-    to
 }
 
 // Moves the bytes from `from` to `to` to the front, and answers how many there are.
 pub(crate) fn move_down(input: &mut [u8], from: usize, to: usize) -> usize {
-    for i in from..to {
-        if input.len() <= i {
-            return i - from;
-        }
-        input[i - from] = input[i];
-    }
-    to.saturating_sub(from)
+    let to = to.min(input.len());
+    let from = from.min(to);
+    input.copy_within(from..to, 0);
+    to - from
 }
 
 // Reads behind the first `held` bytes, and answers how many bytes are there then: no more where the

@@ -4,8 +4,10 @@ use desk::heard::Heard;
 use desk::part::{lent, start_of};
 use desk::say::{Page, one};
 use desk::state::{Desk, FILL, FULL};
+use desk::texts::Text;
 use desk::{heard, texts};
-use exchange::judge::Judged;
+use exchange::judge::Accepted;
+use refusal::Refusal;
 
 pub(crate) fn listen(rt: &impl Print, d: Desk) -> Desk {
     d.with_listening(listening::listen(), d.page)
@@ -19,11 +21,11 @@ pub(crate) fn feed(rt: &impl Print, run: &[u8], d: Desk) -> Desk {
     let state = fed.state;
     let heard = d.heard.and(start_of(run, fed.used));
     let said = if listening::has_answered(state) {
-        texts::USED_ANSWERED
+        Text::UsedAnswered
     } else {
-        texts::USED_LISTENING
+        Text::UsedListening
     };
-    let page = texts::text(rt, d.page, said, one(fed.used as u64));
+    let page = texts::filled(rt, d.page, said, one(fed.used as u64));
     d.with_listening(state, page).with_heard(heard)
 }
 
@@ -54,7 +56,7 @@ pub(crate) fn close(rt: &impl Print, d: Desk) -> Desk {
 
 fn say_closed<'a>(
     rt: &impl Print,
-    answer: Judged,
+    answer: Result<Accepted, Refusal>,
     heard: Heard,
     command: &'a [u8],
     first: &'a [u8],

@@ -11,7 +11,7 @@ mod listening_commands;
 mod modbus_commands;
 
 use desk::aside::{tell, tell_failure};
-use desk::fault::LINE_TOO_LONG;
+use desk::fault::Wrong;
 use desk::part::start_of;
 use desk::state::Desk;
 use desk::{say, state, word};
@@ -44,10 +44,9 @@ fn main(rt: HostRuntime) {
 
 // What the program was started with says what it does.
 fn started_with(rt: &HostRuntime, argument: &[u8]) {
-    let asked = word::place(b"capture --help -h help", argument);
-    match asked {
-        0 => capturedesk::from_arguments(rt),
-        1..=3 => usage(rt),
+    match argument {
+        b"capture" => capturedesk::from_arguments(rt),
+        b"--help" | b"-h" | b"help" => usage(rt),
         _ => not_taken(&rt.stderr(), argument),
     }
 }
@@ -139,7 +138,7 @@ fn more(rt: &impl Print, s: State, source: &mut impl Read, input: &mut [u8]) -> 
     if input.len() <= held {
         return State {
             window: window.too_long(),
-            desk: desk.wrong_at(rt, LINE_TOO_LONG, 0),
+            desk: desk.wrong_at(rt, Wrong::LineTooLong, 0),
             over: false,
         };
     }
@@ -189,7 +188,6 @@ fn obey(rt: &impl Print, window: Window, end: usize, d: Desk, input: &[u8]) -> D
     if window.skipping {
         return d;
     }
-    let from = window.from;
-    let to = line::trimmed(input, from, end);
-    commands::answer(rt, word::part(input, from, to), d)
+    let line = word::part(input, window.from, end);
+    commands::answer(rt, line::trimmed(line), d)
 }

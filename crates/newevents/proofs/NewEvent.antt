@@ -94,7 +94,7 @@ pub new_event : NewEvent
 new_event t q id e done =
     let p = passed t q id e done in
     let g = tested t q p.valid_before in
-    let after : (add_call t q id e).queues ≡ queued_more q (device_of t id) e = ap (λ (a : Adding). a.queues) (add_done t q id e p.valid_before p.there p.few p.room) in (
+    let after : (add_call t q id e).queues ≡ queued_more q (device_of t id) e = ap (λ (a : Adding). a.queues) (add_done t q id e p) in (
       p.there,
       position_holds id t.addresses (omega (arith, p.there, (table_tested t g.table_valid).addresses_long)),
       subst (OneMore t (device_of t id) e q) (sym after) (one_more t q (device_of t id) e g p.there p.room p.few),

@@ -1,14 +1,13 @@
 -- Rule D11: a new event for the device with an id.
 -- Assumes nothing.
-use Rattle.std.specs.Prelude.{◌≡◌, ℕ, ◌+◌, ◌*◌, ◌<◌, Bool, true, List, [], ◌∷◌, ◌++◌, leb, ltb, length, get_or, take, drop, set}
+use Rattle.refusal.specs.declared.Refusal.{Refusal}
+use Rattle.std.specs.Prelude.{◌≡◌, ℕ, ◌+◌, ◌*◌, ◌<◌, Bool, true, List, [], ◌∷◌, ◌++◌, leb, ltb, length, get_or, take, drop, set, Result, Ok, Err}
 use Rattle.lists.specs.Choice.{pick}
 use Rattle.lists.specs.Starting.{starting}
 use Rattle.refusal.specs.Number.{table_not_valid, frame_length, queue_full, at_place}
 use Rattle.refusal.specs.Numbers.{Numbers, accepted_with, refused_with}
 use Rattle.table.specs.Table.{Table, devices}
 use Rattle.queues.specs.Queues.{Queues, Queued, slot_bytes, slot_length, slots_of, with_slots, count_of, device_of, queue, most_queued, most_data, valid_queues}
-use Rattle.newevents.specs.declared.Added.{Added}
-use Rattle.newevents.specs.declared.Added.TheVariants.{Done, Refused}
 
 -- an event to queue, made of its parts
 abbrev pub event : Bool → ℕ → ℕ → List ℕ → Queued
@@ -30,17 +29,17 @@ queued_more q device e =
 
 -- what the call gives: its answer, and the queues afterwards
 pub record Adding : Type 0 where
-  pub added : Added
+  pub added : Result (Unit {0}) Refusal
   pub queues : Queues
 
 -- the answer as numbers: what was done has no values
-abbrev pub added_numbers : Added → Numbers
-added_numbers Done = accepted_with []
-added_numbers (Refused why) = refused_with why
+abbrev pub added_numbers : Result (Unit {0}) Refusal → Numbers
+added_numbers (Ok tt) = accepted_with []
+added_numbers (Err why) = refused_with why
 
 -- a refusal leaves the queues as they were
 abbrev pub add_refusing : ℕ → Queues → Adding
-add_refusing number q = record { added = Refused (at_place number 0); queues = q }
+add_refusing number q = record { added = Err (at_place number 0); queues = q }
 
 -- number 2, then 13 where there is no such device or too much data, then 18 where its queue is full
 unfoldable pub add_call : Table → Queues → ℕ → Queued → Adding
@@ -49,7 +48,7 @@ add_call t q id e =
     (pick (ltb (device_of t id) (devices t))
     (pick (leb (length e.event.payload) most_data)
     (pick (ltb (count_of q (device_of t id)) most_queued)
-    (record { added = Done; queues = queued_more q (device_of t id) e })
+    (record { added = Ok tt; queues = queued_more q (device_of t id) e })
     (add_refusing queue_full q))
     (add_refusing frame_length q))
     (add_refusing frame_length q))
@@ -57,7 +56,7 @@ add_call t q id e =
 
 -- what the call is promised to give: its result, which shows the answer (as itself, or as a caller of another language takes
 -- it), and what the two columns that it may write hold afterwards
-pub record Adds {A : Type 0} (shows : Added → A) (given : Adding) (r : A) (counts slots : List ℕ) : Type 0 where
+pub record Adds {A : Type 0} (shows : Result (Unit {0}) Refusal → A) (given : Adding) (r : A) (counts slots : List ℕ) : Type 0 where
   pub result : r ≡ shows given.added
   pub counts_are : counts ≡ given.queues.counts
   pub slots_are : slots ≡ given.queues.slots
@@ -76,5 +75,5 @@ pub record OneMore (t : Table) (device : ℕ) (e : Queued) (before after : Queue
 -- the device that it is for has the id. Proved in proofs/NewEvent.antt
 abbrev pub NewEvent : Type 0
 NewEvent =
-    (t : Table) (q : Queues) (id : ℕ) (e : Queued) → (add_call t q id e).added ≡ Done
+    (t : Table) (q : Queues) (id : ℕ) (e : Queued) → (add_call t q id e).added ≡ Ok tt
     → (device_of t id < devices t) × (get_or t.addresses (device_of t id) 0 ≡ id) × OneMore t (device_of t id) e q (add_call t q id e).queues

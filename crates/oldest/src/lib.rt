@@ -29,15 +29,10 @@ pub fn marker(count: u8, slots: &[u8]) -> u8
     if count == 0 {
         return NOTHING_QUEUED;
     }
-    let mut left = count;
-    let mut at: usize = 0;
-    while left > 0 {
-        let first = byte_at(slots, at);
-        if first == 1 {
+    for slot in 0..count as usize {
+        if byte_at(slots, SLOT_LENGTH * slot) == 1 {
             return URGENT;
         }
-        at += SLOT_LENGTH;
-        left -= 1;
     }
     NORMAL
 }
@@ -47,13 +42,9 @@ pub fn wire_length(count: u8, slots: &[u8]) -> usize
     ensures { result ≡ wire_length count slots.now }
 {
     let mut bytes: usize = 0;
-    let mut left = count;
-    let mut at: usize = 0;
-    while left > 0 {
-        let data = byte_at(slots, at + 1);
+    for slot in 0..count as usize {
+        let data = byte_at(slots, SLOT_LENGTH * slot + 1);
         bytes += EVENT_HEAD + data as usize;
-        at += SLOT_LENGTH;
-        left -= 1;
     }
     bytes
 }
@@ -62,31 +53,21 @@ pub fn wire_length(count: u8, slots: &[u8]) -> usize
 fn move_up(by: usize, slots: &mut [u8])
     ensures { slots.new ≡ starting (drop by slots.old) slots.old }
 {
-    let mut i = 0;
-    let mut from = by;
-    while from < slots.len() {
-        slots[i] = slots[from];
-        i += 1;
-        from += 1;
+    for i in 0..slots.len().saturating_sub(by) {
+        slots[i] = slots[by + i];
     }
 }
 
 // Drops that many of the oldest events of the device at this place. Nothing changes where it has not
 // so many, or is not there.
+#[tactic(auto, unfolding(crate::specs::Oldest::counts_without, crate::specs::Oldest::slots_without))]
 pub fn drop_oldest(device: usize, events: u8, counts: &mut [u8], slots: &mut [u8])
     ensures { (counts.new ≡ counts_without device events counts.old slots.old) × (slots.new ≡ slots_without device events counts.old slots.old) }
 {
-    if device >= counts.len() {
+    if device >= counts.len() || device >= slots.len() / SLOTS_LENGTH || events > counts[device] {
         return;
     }
-    if device >= slots.len() / SLOTS_LENGTH {
-        return;
-    }
-    let count = counts[device];
-    if events > count {
-        return;
-    }
-    counts[device] = count - events;
+    counts[device] -= events;
     let start = SLOTS_LENGTH * device;
     let end = start + SLOTS_LENGTH;
     let by = SLOT_LENGTH * events as usize;

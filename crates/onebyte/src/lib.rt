@@ -16,11 +16,9 @@ pub extern "C" fn bench_one_byte(bytes: &[u8]) -> u16
     let rows = crc::modbus_rows();
     let table = rows[0];
     let mut register: u32 = 0xFFFF;
-    let mut i = 0;
-    while i < bytes.len() {
-        let at = ((register ^ (bytes[i] as u32)) % 256) as usize;
-        register = (register / 256) ^ (table[at] as u32);
-        i += 1;
+    for byte in bytes {
+        let at = ((register ^ u32::from(*byte)) % 256) as usize;
+        register = (register / 256) ^ u32::from(table[at]);
     }
     register as u16
 }

@@ -1,5 +1,6 @@
 -- How many events a packet lists: each outcome of the code by the bytes of the input, and what it says of the definition's test.
 -- Assumes nothing.
+use Rattle.std.specs.Prelude.{Some, None}
 use mathlib.Core.Path.{◌≡◌, refl, sym, ap, ap₂, ◌∙◌}
 use mathlib.Core.Bool.{Bool, true, false, ◌&&◌}
 use mathlib.Core.List.{List, [], ◌∷◌}
@@ -16,7 +17,6 @@ use Rattle.framing.proofs.HeadCheck.{carried_length}
 use Rattle.events.specs.Events.{Listed, listed, uneven, events_in, how_many_listed, listing_of}
 use Rattle.packets.specs.Layout.{no_more_than, packet_fits}
 use Rattle.packets.specs.Listing.{carried_at, packet_listing}
-use Rattle.events.specs.declared.Listing.TheVariants.{Even, Uneven}
 
 -- ---- the test of the definition, by the code's outcome
 
@@ -28,20 +28,20 @@ module _ (carried : List ℕ) where
       both_second (eqb (get_or carried 2 0) (length (drop 3 carried))) (no_more_than (get_or carried 1 0) (events_in (drop 3 carried)))
       (both_second (leb 3 (length carried)) (eqb (get_or carried 2 0) (length (drop 3 carried)) && no_more_than (get_or carried 1 0) (events_in (drop 3 carried))) fits)
 
-  pub unfit : packet_listing carried ≡ Uneven → packet_fits carried ≡ false
+  pub unfit : packet_listing carried ≡ None → packet_fits carried ≡ false
   unfolding packet_listing
   unfit is = by (packet_fits carried) refl (events_in (drop 3 carried)) refl is
     where
-      by : (t : Bool) → packet_fits carried ≡ t → (l : Listed) → events_in (drop 3 carried) ≡ l → pick t (listing_of l) Uneven ≡ Uneven → t ≡ false
+      by : (t : Bool) → packet_fits carried ≡ t → (l : Listed) → events_in (drop 3 carried) ≡ l → pick t (listing_of l) None ≡ None → t ≡ false
       by true fits (listed events) read e = let z : ◌≡◌ {A = ℕ} 0 1 = cc in absurd (omega arith)
       by true fits uneven read e = true_not_false (even_there fits) (ap (no_more_than (get_or carried 1 0)) read)
       by false fits l read e = refl
 
-  pub fit : {n : ℕ} → packet_listing carried ≡ Even n → (packet_fits carried ≡ true) × (how_many_listed (events_in (drop 3 carried)) ≡ n)
+  pub fit : {n : ℕ} → packet_listing carried ≡ Some n → (packet_fits carried ≡ true) × (how_many_listed (events_in (drop 3 carried)) ≡ n)
   unfolding packet_listing
   fit {n} is = by (packet_fits carried) refl (events_in (drop 3 carried)) refl is
     where
-      by : (t : Bool) → packet_fits carried ≡ t → (l : Listed) → events_in (drop 3 carried) ≡ l → pick t (listing_of l) Uneven ≡ Even n → (t ≡ true) × (how_many_listed l ≡ n)
+      by : (t : Bool) → packet_fits carried ≡ t → (l : Listed) → events_in (drop 3 carried) ≡ l → pick t (listing_of l) None ≡ Some n → (t ≡ true) × (how_many_listed l ≡ n)
       by true fits (listed events) read e = (refl, cc)
       by true fits uneven read e = let z : ◌≡◌ {A = ℕ} 0 1 = cc in absurd (omega arith)
       by false fits l read e = let z : ◌≡◌ {A = ℕ} 0 1 = cc in absurd (omega arith)
@@ -58,15 +58,15 @@ drop_take (suc k) (suc n) (x ∷ xs) = let e : n - k ≡ suc n - suc k = omega a
 as_many : (at m : ℕ) → 8 ≤ m → m - 5 - 3 ≡ at + (m - 2) - (at + 6)
 as_many at m some = omega arith
 
-not_more : (l : Listed) (queued n : ℕ) → listing_of l ≡ Even n → n ≤ queued → no_more_than queued l ≡ true
+not_more : (l : Listed) (queued n : ℕ) → listing_of l ≡ Some n → n ≤ queued → no_more_than queued l ≡ true
 not_more (listed events) queued n is within = let same : length events ≡ n = cc in le-leb (length events) queued (omega arith)
 not_more uneven queued n is within = let z : ◌≡◌ {A = ℕ} 0 1 = cc in absurd (omega arith)
 
-too_many : (l : Listed) (queued n : ℕ) → listing_of l ≡ Even n → queued < n → no_more_than queued l ≡ false
+too_many : (l : Listed) (queued n : ℕ) → listing_of l ≡ Some n → queued < n → no_more_than queued l ≡ false
 too_many (listed events) queued n is over = let same : length events ≡ n = cc in lt-leb (length events) queued (omega arith)
 too_many uneven queued n is over = let z : ◌≡◌ {A = ℕ} 0 1 = cc in absurd (omega arith)
 
-not_even : (l : Listed) (queued : ℕ) → listing_of l ≡ Uneven → no_more_than queued l ≡ false
+not_even : (l : Listed) (queued : ℕ) → listing_of l ≡ None → no_more_than queued l ≡ false
 not_even (listed events) queued is = let z : ◌≡◌ {A = ℕ} 0 1 = cc in absurd (omega arith)
 not_even uneven queued is = refl
 
@@ -74,7 +74,7 @@ module _ (input : List ℕ) (at : ℕ) (long : 5 ≤ length input - at) where
   abbrev carried : List ℕ
   carried = carried_at input at
 
-  pub listing_short : length input - at < 8 → packet_listing carried ≡ Uneven
+  pub listing_short : length input - at < 8 → packet_listing carried ≡ None
   unfolding packet_fits packet_listing
   listing_short short = simp (lt-leb 3 (length carried) (omega (arith, carried_length input at long)))
 
@@ -104,7 +104,7 @@ module _ (input : List ℕ) (at : ℕ) (long : 5 ≤ length input - at) where
     behind_head : length (drop 3 carried) ≡ length input - at - 8
     behind_head = omega (arith, length-drop 3 carried, carried_length input at long)
 
-    pub listing_length : (get_or input (at + 5) 0 ≡ length input - at - 8 → ⊥) → packet_listing carried ≡ Uneven
+    pub listing_length : (get_or input (at + 5) 0 ≡ length input - at - 8 → ⊥) → packet_listing carried ≡ None
     unfolding packet_fits packet_listing
     listing_length other =
         simp (three, ne_eqb (get_or carried 2 0) (length (drop 3 carried)) (λ e. other (sym (stands 2 (at + 5) (omega arith) (omega arith)) ∙ e ∙ behind_head)))
@@ -116,20 +116,20 @@ module _ (input : List ℕ) (at : ℕ) (long : 5 ≤ length input - at) where
       queued : get_or carried 1 0 ≡ get_or input (at + 4) 0
       queued = stands 1 (at + 4) (omega arith) (omega arith)
 
-      pub listing_uneven : listing_of (events_in events) ≡ Uneven → packet_listing carried ≡ Uneven
+      pub listing_uneven : listing_of (events_in events) ≡ None → packet_listing carried ≡ None
       unfolding packet_fits packet_listing
       listing_uneven is =
-          let here : listing_of (events_in (drop 3 carried)) ≡ Uneven = ap (λ (l : List ℕ). listing_of (events_in l)) events_are ∙ is in
+          let here : listing_of (events_in (drop 3 carried)) ≡ None = ap (λ (l : List ℕ). listing_of (events_in l)) events_are ∙ is in
           simp (three, agrees, not_even (events_in (drop 3 carried)) (get_or carried 1 0) here)
 
-      pub listing_over : {n : ℕ} → listing_of (events_in events) ≡ Even n → get_or input (at + 4) 0 < n → packet_listing carried ≡ Uneven
+      pub listing_over : {n : ℕ} → listing_of (events_in events) ≡ Some n → get_or input (at + 4) 0 < n → packet_listing carried ≡ None
       unfolding packet_fits packet_listing
       listing_over {n} is over =
-          let here : listing_of (events_in (drop 3 carried)) ≡ Even n = ap (λ (l : List ℕ). listing_of (events_in l)) events_are ∙ is in
+          let here : listing_of (events_in (drop 3 carried)) ≡ Some n = ap (λ (l : List ℕ). listing_of (events_in l)) events_are ∙ is in
           simp (three, agrees, too_many (events_in (drop 3 carried)) (get_or carried 1 0) n here (omega (arith, queued)))
 
-      pub listing_even : {n : ℕ} → listing_of (events_in events) ≡ Even n → n ≤ get_or input (at + 4) 0 → packet_listing carried ≡ Even n
+      pub listing_even : {n : ℕ} → listing_of (events_in events) ≡ Some n → n ≤ get_or input (at + 4) 0 → packet_listing carried ≡ Some n
       unfolding packet_fits packet_listing
       listing_even {n} is within =
-          let here : listing_of (events_in (drop 3 carried)) ≡ Even n = ap (λ (l : List ℕ). listing_of (events_in l)) events_are ∙ is in
+          let here : listing_of (events_in (drop 3 carried)) ≡ Some n = ap (λ (l : List ℕ). listing_of (events_in l)) events_are ∙ is in
           simp (three, agrees, not_more (events_in (drop 3 carried)) (get_or carried 1 0) n here (omega (arith, queued)), here)

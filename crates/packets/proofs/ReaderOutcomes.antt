@@ -1,5 +1,6 @@
 -- Each outcome of the reader, by the bytes of the input or by what the head check found, in the order of the refusals.
 -- Assumes nothing.
+use Rattle.std.specs.Prelude.{Ok, Err}
 use mathlib.Core.Path.{◌≡◌, refl, sym, ap, ◌∙◌, subst}
 use mathlib.Core.Bool.{true, false, ◌||◌}
 use mathlib.Core.List.{List, ◌∷◌}
@@ -17,7 +18,6 @@ use Rattle.refusal.specs.declared.Refusal.{Refusal}
 use Rattle.framing.specs.Framing.{framed_at, passed, judged, check_of}
 use Rattle.framing.specs.Layout.{broadcast, extended, check_bytes, closed, scan_framing}
 use Rattle.framing.specs.Head.{head_of}
-use Rattle.framing.specs.declared.Head.TheVariants.{Framed, Wrong}
 use Rattle.framing.proofs.Framing.{short_refused}
 use Rattle.framing.proofs.HeadCheck.{carried_length, bytes_are, opened, head_framed_is, head_wrong_is}
 use Rattle.framing.proofs.ScanFrames.{scan_sound, taken_both}
@@ -26,7 +26,7 @@ use Rattle.events.proofs.Ids.{id_most}
 use Rattle.packets.specs.Layout.{event_framing, event_packet, no_events, packet_head, packet_fits}
 use Rattle.packets.specs.Reading.{said_by, events_at}
 use Rattle.packets.specs.Listing.{carried_at, sender_at}
-use Rattle.packets.specs.declared.EventsRead.TheVariants.{Packet, Nothing, Refused}
+use Rattle.packets.specs.declared.EventsRead.TheVariants.{Packet, Nothing}
 
 -- ---- who sent it
 
@@ -62,28 +62,28 @@ module _ (input : List ℕ) (at : ℕ) where
 
 module _ (input : List ℕ) (at : ℕ) (sender : is_id (get_or input at 0) ≡ true) where
   module _ (long : 5 ≤ length input - at) where
-    pub packet_second : (get_or input (at + 1) 0 ≡ extended → ⊥) → events_at input at ≡ Refused (at_place frame_head (at + 1))
+    pub packet_second : (get_or input (at + 1) 0 ≡ extended → ⊥) → events_at input at ≡ Err (at_place frame_head (at + 1))
     unfolding events_at judged passed
     packet_second other =
         ap (said_by at) (opened input at long event_framing long)
         ∙ simp (id_passes (get_or input at 0) sender, ne_eqb extended (get_or input (at + 1) 0) (λ e. other (sym e)))
 
     module _ (second : get_or input (at + 1) 0 ≡ extended) where
-      pub packet_third : (get_or input (at + 2) 0 ≡ event_packet → ⊥) → events_at input at ≡ Refused (at_place subcommand_wrong (at + 2))
+      pub packet_third : (get_or input (at + 2) 0 ≡ event_packet → ⊥) → events_at input at ≡ Err (at_place subcommand_wrong (at + 2))
       unfolding events_at judged passed
       packet_third other =
           ap (said_by at) (opened input at long event_framing long)
           ∙ simp (id_passes (get_or input at 0) sender, eq-eqb extended (get_or input (at + 1) 0) (sym second), not_broadcast (get_or input at 0) sender, ne_eqb (get_or input (at + 2) 0) event_packet other)
 
       module _ (third : get_or input (at + 2) 0 ≡ event_packet) where
-        pub packet_unfit : packet_fits (carried_at input at) ≡ false → events_at input at ≡ Refused (at_place frame_length 0)
+        pub packet_unfit : packet_fits (carried_at input at) ≡ false → events_at input at ≡ Err (at_place frame_length 0)
         unfolding events_at judged passed
         packet_unfit unfit =
             ap (said_by at) (opened input at long event_framing long)
             ∙ simp (id_passes (get_or input at 0) sender, eq-eqb extended (get_or input (at + 1) 0) (sym second), not_broadcast (get_or input at 0) sender, eq-eqb (get_or input (at + 2) 0) event_packet third, unfit)
 
         module _ (fits : packet_fits (carried_at input at) ≡ true) where
-          pub packet_check : closed (drop at input) ≡ false → events_at input at ≡ Refused (at_place frame_check (length input - 2))
+          pub packet_check : closed (drop at input) ≡ false → events_at input at ≡ Err (at_place frame_check (length input - 2))
           unfolding events_at judged passed closed
           packet_check fails =
               let place : at + suc (suc (suc (length (carried_at input at)))) ≡ length input - 2 = omega (arith, carried_length input at long) in
@@ -96,7 +96,7 @@ module _ (input : List ℕ) (at : ℕ) (sender : is_id (get_or input at 0) ≡ t
                 fits,
                 sym (ap (λ (bytes : List ℕ). same (check_of (drop at input)) (check_bytes bytes)) (bytes_are input at long)) ∙ fails,
               ))
-              ∙ ap (λ (n : ℕ). Refused (at_place frame_check n)) place
+              ∙ ap (λ (n : ℕ). Err (at_place frame_check n)) place
 
           -- the first bytes carried stand behind the subcommand
           three : 3 ≤ length (carried_at input at)
@@ -110,7 +110,7 @@ module _ (input : List ℕ) (at : ℕ) (sender : is_id (get_or input at 0) ≡ t
               ∙ ap (λ (n : ℕ). get_or input n 0) (sym is)
 
           pub packet_read : (n : ℕ) → how_many_listed (events_in (drop packet_head (carried_at input at))) ≡ n → closed (drop at input) ≡ true
-              → events_at input at ≡ Packet at (get_or input at 0) (get_or input (at + 3) 0) (get_or input (at + 4) 0) n (at + 6) (get_or input (at + 5) 0)
+              → events_at input at ≡ Ok (Packet at (get_or input at 0) (get_or input (at + 3) 0) (get_or input (at + 4) 0) n (at + 6) (get_or input (at + 5) 0))
           unfolding events_at judged passed closed
           packet_read n count right =
               ap (said_by at) (opened input at long event_framing long)
@@ -163,11 +163,11 @@ module _ (input : List ℕ) (at : ℕ) (none : sender_at input at ≡ false) whe
       (λ short. short_refused event_framing input at short ∙ sym (short_refused (scan_framing no_events no_events) input at short))
       (le_or_lt 5 (length input - at))
 
-  pub nothing_refused : (why : Refusal) → head_of (framed_at (scan_framing no_events no_events) input at) ≡ Wrong why → events_at input at ≡ Refused why
+  pub nothing_refused : (why : Refusal) → head_of (framed_at (scan_framing no_events no_events) input at) ≡ Err why → events_at input at ≡ Err why
   unfolding events_at
   nothing_refused why head = ap (said_by at) (same_frame ∙ head_wrong_is (framed_at (scan_framing no_events no_events) input at) why head)
 
-  pub nothing_said : {s : ℕ} → head_of (framed_at (scan_framing no_events no_events) input at) ≡ Framed s → events_at input at ≡ Nothing at
+  pub nothing_said : {s : ℕ} → head_of (framed_at (scan_framing no_events no_events) input at) ≡ Ok s → events_at input at ≡ Ok (Nothing at)
   unfolding events_at
   nothing_said {s} head =
       let is = head_framed_is (framed_at (scan_framing no_events no_events) input at) s head in

@@ -1,5 +1,7 @@
 -- Reading what comes back and writing it are inverse to each other: the proof of `EventPackets`.
 -- Assumes nothing.
+use Rattle.std.specs.Prelude.{Result, Ok, Err}
+use Rattle.refusal.specs.declared.Refusal.{Refusal}
 use mathlib.Core.Path.{◌≡◌, refl, sym, ap, ap₂, ◌∙◌, subst}
 use mathlib.Core.Bool.{Bool, true, false, ◌&&◌, ◌||◌}
 use mathlib.Core.List.{List, [], ◌∷◌, ◌++◌, append_assoc}
@@ -17,13 +19,12 @@ use Rattle.framing.proofs.Framing.{Sound, short_refused, frame_read_back, exact,
 use Rattle.framing.proofs.CheckBehind.{length_closed}
 use Rattle.refusal.specs.Number.{frame_length, fill_over, at_place}
 use Rattle.answers.specs.Reading.{fill, leading_fill, most_fill, behind_fill}
-use Rattle.answers.specs.declared.Skipped.{Skipped}
 use Rattle.answers.proofs.LeadingFill.{fill_before, fill_only, fill_least, fill_split, by_before, before_few, before_many}
 use Rattle.events.specs.Events.{is_id, Event, events_bytes, walked, Listed, listed, uneven, events_in, how_many_listed}
 use Rattle.packets.specs.Layout.{event_packet, no_events, no_more_than, packet_fits, event_framing, packet_bytes, packet_frame, no_events_frame}
 use Rattle.packets.specs.Reading.{packet, said_by, events_at, read_events}
 use Rattle.packets.specs.RoundTrip.{Bytes, Holds, EventPackets}
-use Rattle.packets.specs.declared.EventsRead.TheVariants.{Packet, Nothing, Refused}
+use Rattle.packets.specs.declared.EventsRead.TheVariants.{Packet, Nothing}
 use Rattle.events.proofs.Ids.{id_most}
 use Rattle.events.proofs.EventList.{walk_there, list_back, list_exact}
 use Rattle.packets.proofs.ReaderOutcomes.{not_broadcast, id_passes}
@@ -38,7 +39,7 @@ read_behind n b s carried few other sound =
     let before = replicate n fill in
     let first = b ∷ extended ∷ [] in
     let input = before ++ frame event_framing first s carried in
-    ap (behind_fill (events_at input) Refused) (before_few input n (fill_before n b _ other) few)
+    ap (behind_fill (events_at input)) (before_few input n (fill_before n b _ other) few)
     ∙ ap (λ (at : ℕ). said_by n (framed_at event_framing input at)) (sym (length-replicate n fill))
     ∙ ap (said_by n)
     (frame_read_back event_framing before first s carried sound refl (same_self (check_bytes (body first s carried))) (omega (arith, length_closed (body first s carried))))
@@ -65,11 +66,11 @@ packet_sound sender flag queued events is within =
     }
 
 packet_back : (n sender flag queued : ℕ) (events : List Event) → n ≤ most_fill → is_id sender ≡ true → length events ≤ queued
-    → read_events (replicate n fill ++ packet_frame sender flag queued events) ≡ Packet n sender flag queued (length events) (n + 6) (length (events_bytes events))
+    → read_events (replicate n fill ++ packet_frame sender flag queued events) ≡ Ok (Packet n sender flag queued (length events) (n + 6) (length (events_bytes events)))
 unfolding packet_bytes packet_frame
 packet_back n sender flag queued events few is within =
     read_behind n sender event_packet (packet_bytes flag queued events) few (λ e. omega (arith, e, id_most sender is)) (packet_sound sender flag queued events is within)
-    ∙ ap (λ (l : Listed). Packet n sender flag queued (how_many_listed l) (n + 6) (length (events_bytes events))) (list_back events)
+    ∙ ap (λ (l : Listed). Ok (Packet n sender flag queued (how_many_listed l) (n + 6) (length (events_bytes events)))) (list_back events)
 
 events_back : (n sender flag queued : ℕ) (events : List Event)
     → walked (length events) (replicate n fill ++ packet_frame sender flag queued events) (n + 6) ≡ events
@@ -81,22 +82,22 @@ events_back n sender flag queued events =
     let place : n + 6 ≡ length (fills ++ head) = omega (arith, length-append fills head, length-replicate n fill) in
     ap₂ (walked (length events)) (sym (append_assoc fills head (events_bytes events ++ check))) place ∙ walk_there events (fills ++ head) check
 
-nothing_back : (n : ℕ) → n ≤ most_fill → read_events (replicate n fill ++ no_events_frame) ≡ Nothing n
+nothing_back : (n : ℕ) → n ≤ most_fill → read_events (replicate n fill ++ no_events_frame) ≡ Ok (Nothing n)
 unfolding passed no_events_frame
 nothing_back n few = read_behind n broadcast no_events [] few (eqb-false broadcast fill refl) (record { width = refl; marked = refl; taken = refl; fitting = refl })
 
-fill_alone : (n : ℕ) → n ≤ most_fill → read_events (replicate n fill) ≡ Refused (at_place frame_length 0)
+fill_alone : (n : ℕ) → n ≤ most_fill → read_events (replicate n fill) ≡ Err (at_place frame_length 0)
 unfolding events_at read_events
 fill_alone n few =
     let input = replicate n fill in
-    ap (behind_fill (events_at input) Refused) (before_few input n (fill_only n) few)
+    ap (behind_fill (events_at input)) (before_few input n (fill_only n) few)
     ∙ ap (said_by n) (short_refused event_framing input n (omega (arith, length-replicate {A = ℕ} n fill)))
 
-over_refused : (n : ℕ) (rest : List ℕ) → most_fill < n → read_events (replicate n fill ++ rest) ≡ Refused (at_place fill_over most_fill)
+over_refused : (n : ℕ) (rest : List ℕ) → most_fill < n → read_events (replicate n fill ++ rest) ≡ Err (at_place fill_over most_fill)
 unfolding read_events
 over_refused n rest many =
     let input = replicate n fill ++ rest in
-    ap (behind_fill (events_at input) Refused) (before_many input (omega (arith, fill_least n rest)))
+    ap (behind_fill (events_at input)) (before_many input (omega (arith, fill_least n rest)))
 
 -- ---- what is accepted is what would be written
 
@@ -171,19 +172,19 @@ module _ (input : List ℕ) (at : ℕ) (first : List ℕ) (s : ℕ) (carried : L
 
 -- what was read where a packet is said, and where nothing is
 packet_said : (at : ℕ) (first : List ℕ) (s : ℕ) (carried : List ℕ) (n sender flag queued count place size : ℕ)
-    → said_by at (framed first s carried) ≡ Packet n sender flag queued count place size
-    → (s ≡ event_packet) × (packet at first carried ≡ Packet n sender flag queued count place size)
+    → said_by at (framed first s carried) ≡ Ok (Packet n sender flag queued count place size)
+    → (s ≡ event_packet) × (packet at first carried ≡ Ok (Packet n sender flag queued count place size))
 packet_said at first s carried n sender flag queued count place size e = by (eqb s event_packet) refl e
   where
-    by : (t : Bool) → eqb s event_packet ≡ t → pick t (packet at first carried) (Nothing at) ≡ Packet n sender flag queued count place size
-        → (s ≡ event_packet) × (packet at first carried ≡ Packet n sender flag queued count place size)
+    by : (t : Bool) → eqb s event_packet ≡ t → pick t (packet at first carried) (Ok (Nothing at)) ≡ Ok (Packet n sender flag queued count place size)
+        → (s ≡ event_packet) × (packet at first carried ≡ Ok (Packet n sender flag queued count place size))
     by true is e = (eqb-true s event_packet is, e)
     by false is e = let z : ◌≡◌ {A = ℕ} 0 1 = cc in absurd (omega arith)
 
-nothing_said : (at : ℕ) (first : List ℕ) (s : ℕ) (carried : List ℕ) (n : ℕ) → said_by at (framed first s carried) ≡ Nothing n → (eqb s event_packet ≡ false) × (at ≡ n)
+nothing_said : (at : ℕ) (first : List ℕ) (s : ℕ) (carried : List ℕ) (n : ℕ) → said_by at (framed first s carried) ≡ Ok (Nothing n) → (eqb s event_packet ≡ false) × (at ≡ n)
 nothing_said at first s carried n e = by (eqb s event_packet) e
   where
-    by : (t : Bool) → pick t (packet at first carried) (Nothing at) ≡ Nothing n → (t ≡ false) × (at ≡ n)
+    by : (t : Bool) → pick t (packet at first carried) (Ok (Nothing at)) ≡ Ok (Nothing n) → (t ≡ false) × (at ≡ n)
     by true e = let z : ◌≡◌ {A = ℕ} 0 1 = cc in absurd (omega arith)
     by false e = (refl, cc)
 
@@ -204,14 +205,14 @@ none_read b s carried other takes fits = by (eqb b broadcast) refl takes
     )
     by false is takes = true_not_false takes other
 
-packet_exact : (input : List ℕ) (n sender flag queued count place size : ℕ) → Bytes input → read_events input ≡ Packet n sender flag queued count place size
+packet_exact : (input : List ℕ) (n sender flag queued count place size : ℕ) → Bytes input → read_events input ≡ Ok (Packet n sender flag queued count place size)
     → Holds input n sender flag queued count place size (walked count input place)
 unfolding packet_frame events_at read_events
 packet_exact input n sender flag queued count place size bytes =
-    by_before (λ (s : Skipped). behind_fill (events_at input) Refused s ≡ Packet n sender flag queued count place size → Holds input n sender flag queued count place size (walked count input place)) input
+    by_before (λ (s : Result ℕ Refusal). behind_fill (events_at input) s ≡ Ok (Packet n sender flag queued count place size) → Holds input n sender flag queued count place size (walked count input place)) input
     (by (framed_at event_framing input (leading_fill input)) refl) (λ many e. let z : ◌≡◌ {A = ℕ} 0 1 = cc in absurd (omega arith))
   where
-    by : (r : FrameRead) → framed_at event_framing input (leading_fill input) ≡ r → leading_fill input ≤ most_fill → said_by (leading_fill input) r ≡ Packet n sender flag queued count place size
+    by : (r : FrameRead) → framed_at event_framing input (leading_fill input) ≡ r → leading_fill input ≤ most_fill → said_by (leading_fill input) r ≡ Ok (Packet n sender flag queued count place size)
         → Holds input n sender flag queued count place size (walked count input place)
     by (framed first s carried) read few e =
         let at = leading_fill input in
@@ -260,16 +261,16 @@ packet_exact input n sender flag queued count place size bytes =
         }))
     by (wrong why) read few e = let z : ◌≡◌ {A = ℕ} 0 1 = cc in absurd (omega arith)
 
-nothing_exact : (input : List ℕ) (n : ℕ) → read_events input ≡ Nothing n → (n ≤ most_fill) × (input ≡ replicate n fill ++ no_events_frame)
+nothing_exact : (input : List ℕ) (n : ℕ) → read_events input ≡ Ok (Nothing n) → (n ≤ most_fill) × (input ≡ replicate n fill ++ no_events_frame)
 unfolding no_events_frame events_at read_events
 nothing_exact input n =
-    by_before (λ (s : Skipped). behind_fill (events_at input) Refused s ≡ Nothing n → Stands n) input
+    by_before (λ (s : Result ℕ Refusal). behind_fill (events_at input) s ≡ Ok (Nothing n) → Stands n) input
     (by (framed_at event_framing input (leading_fill input)) refl) (λ many e. let z : ◌≡◌ {A = ℕ} 0 1 = cc in absurd (omega arith))
   where
     Stands : ℕ → Type 0
     Stands k = (k ≤ most_fill) × (input ≡ replicate k fill ++ no_events_frame)
 
-    by : (r : FrameRead) → framed_at event_framing input (leading_fill input) ≡ r → leading_fill input ≤ most_fill → said_by (leading_fill input) r ≡ Nothing n → Stands n
+    by : (r : FrameRead) → framed_at event_framing input (leading_fill input) ≡ r → leading_fill input ≤ most_fill → said_by (leading_fill input) r ≡ Ok (Nothing n) → Stands n
     by (framed first s carried) read few e =
         let at = leading_fill input in
         let first_is = two input at first s carried read in

@@ -22,7 +22,7 @@ use Rattle.polls.specs.Poll.{event_size, oldest_fits, how_many_fit}
 
 pub data_few : (n : ℕ) (slots : List ℕ) → 0 < n → slots_right n slots ≡ true → get_or slots 1 0 ≤ 8
 unfolding slots_right
-data_few zero slots some right = let z : ⊥ = omega arith in absurd z
+data_few zero slots some right = absurd (omega arith)
 data_few (suc n) slots some right =
     leb-true (get_or slots 1 0) most_data
     (both_first (leb (get_or slots 1 0) most_data) (slots_right n (drop slot_length slots))
@@ -47,7 +47,7 @@ none_fits most slots = refl
 
 pub first_fits : (n most : ℕ) (slots : List ℕ) → 0 < n → slots_right n slots ≡ true → 13 ≤ length slots → oldest_fits most (queued_from n slots) ≡ leb (wire_length 1 slots) most
 unfolding oldest_fits queued_from wire_length
-first_fits zero most slots some right enough = let z : ⊥ = omega arith in absurd z
+first_fits zero most slots some right enough = absurd (omega arith)
 first_fits (suc n) most slots some right enough =
     let same : event_size (queued_in (take 13 slots)) ≡ 4 + get_or slots 1 0 + 0 = omega (arith, size_is slots enough (data_few (suc n) slots some right)) in
     ap (λ (k : ℕ). leb k most) same

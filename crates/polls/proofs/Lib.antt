@@ -4,4 +4,3 @@ pub mod PollKeys
 pub mod PackedEvents
 pub mod PacketBody
 pub mod PollCases
-pub mod CallCases

@@ -86,7 +86,7 @@ length_more (suc n) slots =
 length_least : (k n : ℕ) (slots : List ℕ) → k ≤ n → wire_length k slots ≤ wire_length n slots
 unfolding wire_length
 length_least zero n slots h = omega arith
-length_least (suc k) zero slots h = let z : ⊥ = omega arith in absurd z
+length_least (suc k) zero slots h = absurd (omega arith)
 length_least (suc k) (suc n) slots h = let rest = length_least k n (drop 13 slots) (omega arith) in omega arith
 
 -- an event has at most 12 bytes
@@ -100,7 +100,7 @@ length_most (suc n) slots right =
 pub slots_fewer : (k n : ℕ) (slots : List ℕ) → k ≤ n → slots_right n slots ≡ true → slots_right k slots ≡ true
 unfolding slots_right
 slots_fewer zero n slots h right = refl
-slots_fewer (suc k) zero slots h right = let z : ⊥ = omega arith in absurd z
+slots_fewer (suc k) zero slots h right = absurd (omega arith)
 slots_fewer (suc k) (suc n) slots h right =
     let low = both_first (ltb (get_or slots 0 0) 2) (leb (get_or slots 1 0) most_data && slots_right n (drop slot_length slots)) right in
     let rest = both_second (ltb (get_or slots 0 0) 2) (leb (get_or slots 1 0) most_data && slots_right n (drop slot_length slots)) right in

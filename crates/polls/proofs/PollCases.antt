@@ -1,5 +1,6 @@
 -- The ways of a contest behind its confirmation: nobody contends, the winner has nothing queued, or it sends a packet.
 -- Assumes nothing.
+use Rattle.std.specs.Prelude.{Ok}
 use mathlib.Core.Path.{◌≡◌, refl, sym, ap, ap₂, ◌∙◌}
 use mathlib.Core.Bool.{Bool, true}
 use mathlib.Core.List.{List, ◌∷◌}
@@ -65,7 +66,7 @@ few_dominant keys = dominant_le poll_windows (contending poll_windows keys)
 pub oldest_are : (k n : ℕ) (slots : List ℕ) → k ≤ n → take k (queued_from n slots) ≡ queued_from k slots
 unfolding queued_from
 oldest_are zero n slots h = refl
-oldest_are (suc k) zero slots h = let z : ⊥ = omega arith in absurd z
+oldest_are (suc k) zero slots h = absurd (omega arith)
 oldest_are (suc k) (suc n) slots h = ap (λ (l : List Queued). queued_in (take 13 slots) ∷ l) (oldest_are k n (drop 13 slots) (omega arith))
 
 -- ---- what is heard
@@ -154,14 +155,14 @@ module _ (request : EventRequest) (t : Table) (q after : Queues) (is_after : aft
   contest_keeps place (packet dominant _ flag queued events) k = (refl, refl, refl)
 
   pub gives_poll : (r : Polled) (buffer lasts : List ℕ) → GivesHeard request t after old r buffer lasts
-      → GivesPoll itself (polling request old t q) r buffer after.flags lasts after.counts after.slots
+      → GivesPoll itself (polling request old t q) (Ok r) buffer after.flags lasts after.counts after.slots
   unfolding polling poll
   gives_poll r buffer lasts heard =
       let same = contest_keeps (poll_contest request t after).place (poll_heard request t after) after in
       let moved : queues_after (poll_contest request t after).place (poll_heard request t after) after ≡ (poll request t q).queues =
       ap (λ (k : Queues). queues_after (poll_contest request t k).place (poll_heard request t k) k) is_after in
       record {
-        result = heard.result ∙ ap (λ (k : Queues). polled_as (poll_heard request t k)) is_after;
+        result = ap Ok (heard.result ∙ ap (λ (k : Queues). polled_as (poll_heard request t k)) is_after);
         buffer_is = heard.buffer_is ∙ ap (λ (k : Queues). starting (heard_bytes (poll_heard request t k)) old) is_after;
         flags_are = sym same.0 ∙ ap (λ (k : Queues). k.flags) moved;
         lasts_are = heard.lasts_are ∙ ap (λ (k : Queues). k.lasts) moved;

@@ -1,41 +1,14 @@
--- The keys of a poll: the three ways to one, and one for each device.
+-- The keys of a poll: one for each device.
 -- Assumes nothing.
 use mathlib.Core.Path.{◌≡◌, refl, sym, ap, ◌∙◌}
-use mathlib.Core.Bool.{Bool, true, false, ◌&&◌}
 use mathlib.Core.List.{List}
-use Prim.Native.Nat.{ℕ, zero, suc, ◌+◌, ◌*◌, ◌≤◌, ◌<◌}
+use Prim.Native.Nat.{ℕ, zero, suc, ◌+◌, ◌<◌}
 use native.Mathlib.Nat.{add-zero}
 use native.Mathlib.Omega.{arith}
 use lib.ListN.{length, get_or}
-use borrow.Author.Tests.{le-leb, lt-leb}
-use Rattle.lists.specs.Choice.{pick}
 use Rattle.eventrequests.specs.declared.EventRequest.{EventRequest}
-use Rattle.queues.specs.Queues.{Queued, Queues, queue}
-use Rattle.oldest.specs.Oldest.{marker_of}
-use Rattle.polls.specs.Poll.{oldest_fits, poll_key, for_devices, poll_keys}
-
--- ---- one key
-
-module _ (request : EventRequest) (id : ℕ) (events : List Queued) where
-  abbrev key_if : Bool → ℕ
-  key_if b = pick b (marker_of events * 256 + id) 4096
-
-  pub below_minimum : id < request.minimum → 4096 ≡ poll_key request id events
-  unfolding poll_key
-  below_minimum below = sym (ap (λ (b : Bool). key_if (b && oldest_fits request.most events)) (lt-leb request.minimum id below))
-
-  module _ (from : request.minimum ≤ id) where
-    pub oldest_too_long : oldest_fits request.most events ≡ false → 4096 ≡ poll_key request id events
-    unfolding poll_key
-    oldest_too_long over =
-        sym (ap (λ (b : Bool). key_if (b && oldest_fits request.most events)) (le-leb request.minimum id from) ∙ ap key_if over)
-
-    pub contends_with : oldest_fits request.most events ≡ true → marker_of events * 256 + id ≡ poll_key request id events
-    unfolding poll_key
-    contends_with fits =
-        sym (ap (λ (b : Bool). key_if (b && oldest_fits request.most events)) (le-leb request.minimum id from) ∙ ap key_if fits)
-
--- ---- one for each device
+use Rattle.queues.specs.Queues.{Queues, queue}
+use Rattle.polls.specs.Poll.{poll_key, for_devices, poll_keys}
 
 module _ (number : ℕ → ℕ) where
   pub each_length : (device more : ℕ) → length (for_devices number device more) ≡ more
@@ -45,7 +18,7 @@ module _ (number : ℕ → ℕ) where
 
   pub each_at : (device more i : ℕ) → i < more → get_or (for_devices number device more) i 0 ≡ number (device + i)
   unfolding for_devices
-  each_at device zero i h = let z : ⊥ = omega arith in absurd z
+  each_at device zero i h = absurd (omega arith)
   each_at device (suc more) zero h = ap number (sym (add-zero device))
   each_at device (suc more) (suc i) h =
       let place : suc device + i ≡ device + suc i = omega arith in

@@ -10,15 +10,18 @@ ghost use Rattle.polls.specs.Inner.{RightSlots, GivesHeard};
 
 use crate::{Polled, keys, packing};
 use answers::put_fill;
+use arbitration::Decided;
 use confirmation::confirm;
 use eventrequests::EventRequest;
 use framing::{END_LENGTH, write_closed};
 use queues::SLOTS_LENGTH;
+use refusal::Refusal;
 
 // The longest body of a packet: six bytes, and 8 events of 12.
 const LONGEST_BODY: usize = 102;
 
-// One FF for each dominant window, then a packet of so many of the oldest events.
+// One FF for each dominant window, then a packet of so many of the oldest events. There is room for
+// any packet, so that its writer does not refuse.
 fn send(
     dominant: usize,
     sender: u8,
@@ -34,7 +37,7 @@ fn send(
     let mut body = [0u8; LONGEST_BODY];
     let end = packing::put_body(sender, flag, count, events, slots, &mut body);
     put_fill(dominant, answer);
-    write_closed(&body[..end], &mut answer[dominant..]);
+    let _ = write_closed(&body[..end], &mut answer[dominant..]);
     dominant + end + 2
 }
 
@@ -44,7 +47,7 @@ fn send_nothing(dominant: usize, sender: u8, answer: &mut [u8]) -> usize
     ensures { (result ≡ length (heard_bytes (nothing dominant sender))) × (answer.new ≡ starting (heard_bytes (nothing dominant sender)) answer.old) }
 {
     put_fill(dominant, answer);
-    packets::write_no_events(&mut answer[dominant..]);
+    let _ = packets::write_no_events(&mut answer[dominant..]);
     dominant + END_LENGTH
 }
 
@@ -64,37 +67,32 @@ fn contend(
     requires { (valid_queues (columns serials.now addresses.now marks.now) (queue_columns flags.now lasts.old counts.now slots.now) ≡ true) × (poll_room ≤ length answer.old) }
     ensures { GivesHeard request (columns serials.now addresses.now marks.now) (queue_columns flags.now lasts.old counts.now slots.now) answer.old result answer.new lasts.new }
 {
-    let won = keys::decide(request, addresses, counts, slots);
-    let place = won.place;
+    let Decided {
+        place,
+        dominant,
+        ..
+    } = keys::decide(request, addresses, counts, slots);
     if place >= addresses.len() {
         return Polled::Silent;
     }
     let sender = addresses[place];
     let count = counts[place];
     let start = SLOTS_LENGTH * place;
-    let end = start + SLOTS_LENGTH;
-    let events = packing::how_many_fit(count, request.most, &slots[start..end]);
+    let own = &slots[start..start + SLOTS_LENGTH];
+    let events = packing::how_many_fit(count, request.most, own);
     if count == 0 {
-        let skipped = won.dominant;
+        let length = send_nothing(dominant, sender, answer);
         return Polled::Nothing {
-            skipped,
-            length: send_nothing(skipped, sender, answer),
+            skipped: dominant,
+            length,
             sender,
         };
     }
     let flag = flags[place];
     lasts[place] = events;
     Polled::Packet {
-        skipped: won.dominant,
-        length: send(
-            won.dominant,
-            sender,
-            flag,
-            count,
-            events,
-            &slots[start..end],
-            answer,
-        ),
+        skipped: dominant,
+        length: send(dominant, sender, flag, count, events, own, answer),
         sender,
         flag,
         events,
@@ -112,14 +110,14 @@ pub(crate) fn respond(
     counts: &mut [u8],
     slots: &mut [u8],
     answer: &mut [u8],
-) -> Polled
+) -> Result<Polled, Refusal>
     requires { (valid_queues (columns serials.now addresses.now marks.now) (queue_columns flags.old lasts.old counts.old slots.old) ≡ true) × (poll_room ≤ length answer.old) }
     ensures { GivesPoll id (polling request answer.old (columns serials.now addresses.now marks.now) (queue_columns flags.old lasts.old counts.old slots.old)) result answer.new flags.new lasts.new counts.new slots.new }
 {
     let id = request.confirmed;
     let flag = request.flag;
     confirm(addresses, id, flag, flags, lasts, counts, slots);
-    contend(
+    Ok(contend(
         request, serials, addresses, marks, flags, lasts, counts, slots, answer,
-    )
+    ))
 }

@@ -24,21 +24,16 @@ fn oldest_fits(most: u8, count: u8, slots: &[u8]) -> bool
     requires { RightSlots count slots.now }
     ensures { result ≡ oldest_fits most (queued_from count slots.now) }
 {
-    if count == 0 {
-        return true;
-    }
-    wire_length(1, slots) <= most as usize
+    count == 0 || wire_length(1, slots) <= most as usize
 }
 
 // The key of a device with this id, of whose queue these are the slots.
+#[tactic(auto, unfolding(crate::specs::Poll::poll_key))]
 fn key(request: EventRequest, id: u8, count: u8, slots: &[u8]) -> u32
     requires { RightSlots count slots.now }
     ensures { result ≡ poll_key request id (queued_from count slots.now) }
 {
-    if id < request.minimum {
-        return SITS_OUT;
-    }
-    if !oldest_fits(request.most, count, slots) {
+    if id < request.minimum || !oldest_fits(request.most, count, slots) {
         return SITS_OUT;
     }
     let high = marker(count, slots) as u32;
@@ -50,12 +45,10 @@ fn put_keys(request: EventRequest, ids: &[u8], counts: &[u8], slots: &[u8], keys
     requires { RightQueues (length ids.now) counts.now slots.now × (length ids.now ≤ most_devices) × (length ids.now ≤ length keys.old) }
     ensures { keys.new ≡ starting (poll_keys request ids.now (queues_of counts.now slots.now)) keys.old }
 {
-    let mut i = 0;
-    while i < ids.len() {
+    for (i, id) in ids.iter().enumerate() {
         let start = SLOTS_LENGTH * i;
         let end = start + SLOTS_LENGTH;
-        keys[i] = key(request, ids[i], counts[i], &slots[start..end]);
-        i += 1;
+        keys[i] = key(request, *id, counts[i], &slots[start..end]);
     }
 }
 

@@ -9,21 +9,20 @@ mod answer;
 mod keys;
 mod packing;
 
+ghost use Rattle.std.specs.Prelude.{Ok};
 ghost use mathlib.Mathlib.Logic.Function.Defs.{id};
 ghost use Rattle.table.specs.Table.{columns};
-ghost use Rattle.eventrequests.specs.declared.EventRequestRead.TheVariants.{Asked};
 ghost use Rattle.queues.specs.Queues.{queue_columns};
 ghost use Rattle.polls.specs.Calls.{GivesPoll, poll_call, offer_poll_call};
 
-use eventrequests::{EventRequest, EventRequestRead};
-use guard::Guard;
+use eventrequests::EventRequest;
 use refusal::Refusal;
 
 // An answer buffer holds at least this: one FF for each of 12 windows, and the longest packet.
 pub const POLL_ROOM: usize = 116;
 
 // What a poll gives: how many FF the answer at the start of the buffer begins with, how many bytes it
-// has and who sent it, of a packet with its flag and how many events it lists; silence; or the refusal.
+// has and who sent it, of a packet with its flag and how many events it lists; or silence.
 #[derive(Clone, Copy)]
 pub enum Polled {
     Packet {
@@ -39,13 +38,13 @@ pub enum Polled {
         sender: u8,
     },
     Silent,
-    Refused(Refusal),
 }
 
 // A request as it was read, behind the guard: a refused one gives its reader's refusal and changes
 // nothing. The two calls below are uses of this one.
+#[tactic(auto, unfolding(guard::specs::Guard::guard, crate::specs::Calls::poll_call))]
 pub fn ask(
-    read: EventRequestRead,
+    read: Result<EventRequest, Refusal>,
     serials: &[u32],
     addresses: &[u8],
     marks: &[u8],
@@ -54,20 +53,15 @@ pub fn ask(
     counts: &mut [u8],
     slots: &mut [u8],
     answer: &mut [u8],
-) -> Polled
+) -> Result<Polled, Refusal>
     ensures { GivesPoll id (poll_call read answer.old (columns serials.now addresses.now marks.now) (queue_columns flags.old lasts.old counts.old slots.old)) result answer.new flags.new lasts.new counts.new slots.new }
 {
     let ok = queues::valid_queues(serials, addresses, marks, flags, lasts, counts, slots);
-    let admitted = guard::admit(POLL_ROOM, answer.len(), ok);
-    match admitted {
-        Guard::Refused(why) => Polled::Refused(why),
-        Guard::Passed => match read {
-            EventRequestRead::Refused(why) => Polled::Refused(why),
-            EventRequestRead::Asked(request) => answer::respond(
-                request, serials, addresses, marks, flags, lasts, counts, slots, answer,
-            ),
-        },
-    }
+    guard::admit(POLL_ROOM, answer.len(), ok)?;
+    let request = read?;
+    answer::respond(
+        request, serials, addresses, marks, flags, lasts, counts, slots, answer,
+    )
 }
 
 // A poll.
@@ -81,12 +75,19 @@ pub fn poll(
     counts: &mut [u8],
     slots: &mut [u8],
     answer: &mut [u8],
-) -> Polled
-    ensures { GivesPoll id (poll_call (Asked request) answer.old (columns serials.now addresses.now marks.now) (queue_columns flags.old lasts.old counts.old slots.old)) result answer.new flags.new lasts.new counts.new slots.new }
+) -> Result<Polled, Refusal>
+    ensures { GivesPoll id (poll_call (Ok request) answer.old (columns serials.now addresses.now marks.now) (queue_columns flags.old lasts.old counts.old slots.old)) result answer.new flags.new lasts.new counts.new slots.new }
 {
-    let read = EventRequestRead::Asked(request);
     ask(
-        read, serials, addresses, marks, flags, lasts, counts, slots, answer,
+        Ok(request),
+        serials,
+        addresses,
+        marks,
+        flags,
+        lasts,
+        counts,
+        slots,
+        answer,
     )
 }
 
@@ -101,7 +102,7 @@ pub fn offer(
     counts: &mut [u8],
     slots: &mut [u8],
     answer: &mut [u8],
-) -> Polled
+) -> Result<Polled, Refusal>
     ensures { GivesPoll id (offer_poll_call frame.now answer.old (columns serials.now addresses.now marks.now) (queue_columns flags.old lasts.old counts.old slots.old)) result answer.new flags.new lasts.new counts.new slots.new }
 {
     let read = eventrequests::read_event_request(frame);

@@ -22,20 +22,16 @@ pub(crate) fn how_many_fit(count: u8, most: u8, slots: &[u8]) -> u8
 {
     let room = most as usize;
     let mut used: usize = 0;
-    let mut fit: u8 = 0;
-    let mut at: usize = 0;
-    while fit < count {
-        let data = slots[at + 1];
+    for fit in 0..count {
+        let data = slots[SLOT_LENGTH * fit as usize + 1];
         let size = EVENT_HEAD + data as usize;
         let next = used + size;
         if next > room {
             return fit;
         }
         used = next;
-        at += SLOT_LENGTH;
-        fit += 1;
     }
-    fit
+    count
 }
 
 // Puts so many of the oldest events at the start of the output, one behind the other. A slot holds
@@ -44,18 +40,13 @@ pub(crate) fn put_events(events: u8, slots: &[u8], out: &mut [u8])
     requires { RightSlots events slots.now × (wire_length events slots.now ≤ length out.old) }
     ensures { out.new ≡ starting (events_bytes (map event_of (queued_from events slots.now))) out.old }
 {
-    let mut put: u8 = 0;
-    let mut from: usize = 0;
     let mut to: usize = 0;
-    while put < events {
-        let data = slots[from + 1];
-        let size = EVENT_HEAD + data as usize;
-        let first = from + 1;
+    for put in 0..events as usize {
+        let first = SLOT_LENGTH * put + 1;
+        let size = EVENT_HEAD + slots[first] as usize;
         let end = first + size;
         lists::put(&slots[first..end], &mut out[to..]);
         to += size;
-        from += SLOT_LENGTH;
-        put += 1;
     }
 }
 

@@ -1,13 +1,13 @@
 -- What valid queues have, fact by fact.
 -- Assumes nothing.
-use mathlib.Core.Path.{◌≡◌, refl, sym}
-use mathlib.Core.Bool.{true, false, ◌&&◌}
+use mathlib.Core.Path.{◌≡◌}
+use mathlib.Core.Bool.{true}
 use Prim.Native.Nat.{◌*◌}
 use lib.Dec.{eqb}
 use lib.ListN.{length}
 use borrow.Author.Tests.{eqb-true, eq-eqb}
 use Rattle.lists.specs.Tests.{all, different}
-use Rattle.lists.proofs.Cases.{by_test, both_first, both_second, both, test_passes}
+use Rattle.lists.proofs.Cases.{both_first, both_second, both}
 use Rattle.table.specs.Table.{Table, devices, valid}
 use Rattle.table.proofs.Meaning.{tested as table_tested}
 use Rattle.events.specs.Events.{is_id}
@@ -62,21 +62,3 @@ module _ (t : Table) (q : Queues) where
       (both (eq-eqb (length q.lasts) (devices t) g.lasts_long)
       (both (eq-eqb (length q.counts) (devices t) g.counts_long)
       (both (eq-eqb (length q.slots) (slots_length * devices t) g.slots_long) (both g.flags_right g.queues_right)))))))
-
-  -- .. so where one of them fails, they are not valid
-  pub not_valid : (Tested t q → ⊥) → false ≡ valid_queues t q
-  not_valid fails = by_test (valid_queues t q) (λ v. absurd (fails (tested v))) sym
-
-  -- where all before the last pass, the last decides
-  pub queues_decide : valid t ≡ true → (all is_id t.addresses && different t.addresses) ≡ true → length q.flags ≡ devices t → length q.lasts ≡ devices t
-      → length q.counts ≡ devices t → length q.slots ≡ slots_length * devices t → all flag_right q.flags ≡ true
-      → each_below (device_right q.lasts q.counts q.slots) (devices t) ≡ valid_queues t q
-  unfolding valid_queues
-  queues_decide table_valid ids flags_long lasts_long counts_long slots_long flags_right =
-      test_passes table_valid
-      (test_passes (both_first (all is_id t.addresses) (different t.addresses) ids)
-      (test_passes (both_second (all is_id t.addresses) (different t.addresses) ids)
-      (test_passes (eq-eqb (length q.flags) (devices t) flags_long)
-      (test_passes (eq-eqb (length q.lasts) (devices t) lasts_long)
-      (test_passes (eq-eqb (length q.counts) (devices t) counts_long)
-      (test_passes (eq-eqb (length q.slots) (slots_length * devices t) slots_long) (test_passes flags_right refl)))))))

@@ -3,12 +3,11 @@
 use mathlib.Core.Path.{◌≡◌, refl, sym, ap, ap₂, ◌∙◌}
 use mathlib.Core.Bool.{Bool, true, false, ◌&&◌}
 use mathlib.Core.List.{List, ◌++◌}
-use Prim.Native.Nat.{ℕ, zero, suc, ◌+◌, ◌-◌, ◌*◌, ◌≤◌, ◌<◌}
-use native.Mathlib.Nat.{add-zero}
+use Prim.Native.Nat.{ℕ, zero, suc, ◌+◌, ◌*◌, ◌/◌, ◌≤◌, ◌<◌}
 use native.Mathlib.Omega.{arith}
 use lib.Dec.{leb, ltb}
-use lib.ListN.{length, get_or, take, drop, length-drop, take-append-drop, get_or-append}
-use lib.Seq.{get_or-drop, drop-drop, drop-append-le, length-take-le}
+use lib.ListN.{length, get_or, take, drop, length-drop, take-append-drop, get_or-append, length-append}
+use lib.Seq.{drop-drop, drop-append-le, length-take-le, drop_at}
 use borrow.Author.Tests.{lt-ltb, le-ltb, le-leb, lt-leb, leb-true}
 use Rattle.lists.proofs.Cases.{by_test, true_not_false, both, both_first, both_second, test_passes}
 use Rattle.queues.specs.Queues.{slots_right, queue_right, slot_length, most_data, most_queued}
@@ -19,39 +18,53 @@ further n slots =
     let place : 13 * suc n ≡ 13 + 13 * n = omega arith in
     ap (λ (k : ℕ). drop k slots) place ∙ sym (drop-drop (13 * n) 13 slots)
 
-module _ (slots : List ℕ) (at : ℕ) where
-  first_byte : get_or (drop at slots) 0 0 ≡ get_or slots at 0
-  first_byte = get_or-drop at slots 0 0 ∙ ap (λ (k : ℕ). get_or slots k 0) (add-zero at)
+-- so many slots at the start of a list decide, whatever stands behind them
+pub slots_front : (n : ℕ) (front rest : List ℕ) → 13 * n ≤ length front → slots_right n (front ++ rest) ≡ slots_right n front
+unfolding slots_right
+slots_front zero front rest long = refl
+slots_front (suc n) front rest long =
+    let first : get_or (front ++ rest) 0 0 ≡ get_or front 0 0 = get_or-append front rest 0 0 (omega arith) in
+    let second : get_or (front ++ rest) 1 0 ≡ get_or front 1 0 = get_or-append front rest 0 1 (omega arith) in
+    let behind : slots_right n (drop 13 (front ++ rest)) ≡ slots_right n (drop 13 front) =
+    ap (slots_right n) (drop-append-le 13 front rest (omega arith)) ∙ slots_front n (drop 13 front) rest (omega (arith, length-drop 13 front)) in
+    ap₂ (λ (x y : ℕ). ltb x 2 && (leb y most_data && slots_right n (drop 13 (front ++ rest)))) first second
+    ∙ ap (λ (b : Bool). ltb (get_or front 0 0) 2 && (leb (get_or front 1 0) most_data && b)) behind
 
-  second_byte : get_or (drop at slots) 1 0 ≡ get_or slots (at + 1) 0
-  second_byte = get_or-drop at slots 1 0
+-- so many whole slots at the start of a list, as a list of their own
+pub queued_only : (n : ℕ) (slots : List ℕ) → 13 * n ≤ length slots → slots_right (length (take (13 * n) slots) / 13) (take (13 * n) slots) ≡ slots_right n slots
+queued_only n slots h =
+    let long : length (take (13 * n) slots) ≡ 13 * n = length-take-le (13 * n) slots h in
+    let count : length (take (13 * n) slots) / 13 ≡ n = omega arith in
+    ap (λ (k : ℕ). slots_right k (take (13 * n) slots)) count
+    ∙ sym (slots_front n (take (13 * n) slots) (drop (13 * n) slots) (omega arith))
+    ∙ ap (slots_right n) (take-append-drop (13 * n) slots)
 
-  pub urgency_wrong : (n : ℕ) → 0 < n → 1 < get_or slots at 0 → slots_right n (drop at slots) ≡ false
+-- the first slot of a list of slots, and the rest
+module _ (slots slot rest : List ℕ) (next : slots ≡ slot ++ rest) (whole : length slot ≡ slot_length) where
+  first_and_rest : slots_right (length slots / 13) slots ≡ (ltb (get_or slot 0 0) 2 && (leb (get_or slot 1 0) most_data && slots_right (length rest / 13) rest))
   unfolding slots_right
-  urgency_wrong zero some h = let z : ⊥ = omega arith in absurd z
-  urgency_wrong (suc n) some h =
-      ap (λ (b : Bool). b && (leb (get_or (drop at slots) 1 0) most_data && slots_right n (drop slot_length (drop at slots))))
-      (le-ltb (get_or (drop at slots) 0 0) 2 (omega (arith, first_byte, h)))
+  first_and_rest =
+      let one_more : length slots / 13 ≡ suc (length rest / 13) = omega (arith, ap length next, length-append slot rest) in
+      let first : get_or (slot ++ rest) 0 0 ≡ get_or slot 0 0 = get_or-append slot rest 0 0 (omega arith) in
+      let second : get_or (slot ++ rest) 1 0 ≡ get_or slot 1 0 = get_or-append slot rest 0 1 (omega arith) in
+      ap₂ slots_right one_more next
+      ∙ ap₂ (λ (x y : ℕ). ltb x 2 && (leb y most_data && slots_right (length rest / 13) (drop 13 (slot ++ rest)))) first second
+      ∙ ap (λ (l : List ℕ). ltb (get_or slot 0 0) 2 && (leb (get_or slot 1 0) most_data && slots_right (length rest / 13) l)) (drop_at slot rest 13 whole)
 
-  pub data_wrong : (n : ℕ) → 0 < n → 8 < get_or slots (at + 1) 0 → slots_right n (drop at slots) ≡ false
-  unfolding slots_right
-  data_wrong zero some h = let z : ⊥ = omega arith in absurd z
-  data_wrong (suc n) some h =
-      by_test (slots_right (suc n) (drop at slots))
-      (λ t. true_not_false
-      (both_first (leb (get_or (drop at slots) 1 0) most_data) (slots_right n (drop slot_length (drop at slots)))
-      (both_second (ltb (get_or (drop at slots) 0 0) 2) (leb (get_or (drop at slots) 1 0) most_data && slots_right n (drop slot_length (drop at slots))) t))
-      (lt-leb (get_or (drop at slots) 1 0) most_data (omega (arith, second_byte, h))))
-      (λ f. f)
+  pub urgency_wrong : 1 < get_or slot 0 0 → slots_right (length slots / 13) slots ≡ false
+  urgency_wrong h =
+      first_and_rest
+      ∙ ap (λ (b : Bool). b && (leb (get_or slot 1 0) most_data && slots_right (length rest / 13) rest)) (le-ltb (get_or slot 0 0) 2 (omega arith))
 
-  pub slot_passes : (n : ℕ) → 0 < n → get_or slots at 0 ≤ 1 → get_or slots (at + 1) 0 ≤ 8 → slots_right (n - 1) (drop (at + slot_length) slots) ≡ slots_right n (drop at slots)
-  unfolding slots_right
-  slot_passes zero some low few = let z : ⊥ = omega arith in absurd z
-  slot_passes (suc n) some low few =
-      let one_less : suc n - 1 ≡ n = omega arith in
-      ap₂ slots_right one_less (sym (drop-drop slot_length at slots))
-      ∙ test_passes (lt-ltb (get_or (drop at slots) 0 0) 2 (omega (arith, first_byte, low)))
-      (test_passes (le-leb (get_or (drop at slots) 1 0) most_data (omega (arith, second_byte, few))) refl)
+  pub data_wrong : most_data < get_or slot 1 0 → slots_right (length slots / 13) slots ≡ false
+  data_wrong h =
+      first_and_rest
+      ∙ ap (λ (b : Bool). ltb (get_or slot 0 0) 2 && (b && slots_right (length rest / 13) rest)) (lt-leb (get_or slot 1 0) most_data h)
+      ∙ by_test (ltb (get_or slot 0 0) 2) (λ t. ap (λ (b : Bool). b && false) t) (λ f. ap (λ (b : Bool). b && false) f)
+
+  pub slot_passes : get_or slot 0 0 ≤ 1 → get_or slot 1 0 ≤ most_data → slots_right (length rest / 13) rest ≡ slots_right (length slots / 13) slots
+  slot_passes low few =
+      test_passes (lt-ltb (get_or slot 0 0) 2 (omega arith)) (test_passes (le-leb (get_or slot 1 0) most_data few) refl) ∙ sym first_and_rest
 
 module _ (last count : ℕ) (slots : List ℕ) where
   not_right : (queue_right last count slots ≡ true → ⊥) → false ≡ queue_right last count slots
@@ -85,18 +98,6 @@ module _ (last count : ℕ) (slots : List ℕ) where
   queue_slots t = both_second (leb last count) (slots_right count slots) (both_second (leb count most_queued) (leb last count && slots_right count slots) t)
 
 -- ---- the first slots of a list
-
--- so many slots at the start of a list decide, whatever stands behind them
-pub slots_front : (n : ℕ) (front rest : List ℕ) → 13 * n ≤ length front → slots_right n (front ++ rest) ≡ slots_right n front
-unfolding slots_right
-slots_front zero front rest long = refl
-slots_front (suc n) front rest long =
-    let first : get_or (front ++ rest) 0 0 ≡ get_or front 0 0 = get_or-append front rest 0 0 (omega arith) in
-    let second : get_or (front ++ rest) 1 0 ≡ get_or front 1 0 = get_or-append front rest 0 1 (omega arith) in
-    let behind : slots_right n (drop 13 (front ++ rest)) ≡ slots_right n (drop 13 front) =
-    ap (slots_right n) (drop-append-le 13 front rest (omega arith)) ∙ slots_front n (drop 13 front) rest (omega (arith, length-drop 13 front)) in
-    ap₂ (λ (x y : ℕ). ltb x 2 && (leb y most_data && slots_right n (drop 13 (front ++ rest)))) first second
-    ∙ ap (λ (b : Bool). ltb (get_or front 0 0) 2 && (leb (get_or front 1 0) most_data && b)) behind
 
 pub slots_same : (n : ℕ) (slots rest : List ℕ) → 13 * n ≤ length slots → slots_right n (take (13 * n) slots ++ rest) ≡ slots_right n slots
 slots_same n slots rest h =

@@ -27,6 +27,7 @@ pub const SLOT_LENGTH: usize = 13;
 pub const SLOTS_LENGTH: usize = 104;
 
 // Whether table and queues are valid: what number 2 asks in every call on events.
+#[tactic(auto, unfolding(crate::specs::Queues::valid_queues))]
 pub fn valid_queues(
     serials: &[u32],
     addresses: &[u8],
@@ -41,37 +42,23 @@ pub fn valid_queues(
     if !table::valid(serials, addresses, marks) {
         return false;
     }
-    if !validity::ids_right(addresses) {
-        return false;
-    }
-    if flags.len() != serials.len() {
-        return false;
-    }
-    if lasts.len() != serials.len() {
-        return false;
-    }
-    if counts.len() != serials.len() {
-        return false;
-    }
-    if slots.len() != SLOTS_LENGTH * serials.len() {
-        return false;
-    }
-    if !zeros_and_ones(flags) {
-        return false;
-    }
-    validity::queues_right(lasts, counts, slots)
+    // Only of a valid table is it known that the product below fits.
+    let devices = serials.len();
+    validity::ids_right(addresses)
+        && flags.len() == devices
+        && lasts.len() == devices
+        && counts.len() == devices
+        && slots.len() == SLOTS_LENGTH * devices
+        && zeros_and_ones(flags)
+        && validity::queues_right(lasts, counts, slots)
 }
 
 // The place of the device with this id; as many as there are where there is none.
 pub fn device_of(addresses: &[u8], id: u8) -> usize
     ensures { result ≡ position id addresses.now }
 {
-    let mut i = 0;
-    while i < addresses.len() {
-        if addresses[i] == id {
-            return i;
-        }
-        i += 1;
-    }
-    i
+    addresses
+        .iter()
+        .position(|address| *address == id)
+        .unwrap_or(addresses.len())
 }

@@ -14,19 +14,13 @@ const BYTES: usize = 256;
 pub(crate) fn ids_right(ids: &[u8]) -> bool
     ensures { result ≡ (all is_id ids.now && different ids.now) }
 {
-    let mut taken = [0u8; BYTES];
-    let mut i = 0;
-    while i < ids.len() {
-        let id = ids[i];
-        if !is_id(id) {
+    let mut taken = [false; BYTES];
+    for id in ids {
+        let at = *id as usize;
+        if !is_id(*id) || taken[at] {
             return false;
         }
-        let at = id as usize;
-        if taken[at] > 0 {
-            return false;
-        }
-        taken[at] = 1;
-        i += 1;
+        taken[at] = true;
     }
     true
 }
@@ -36,23 +30,14 @@ fn queue_right(last: u8, count: u8, slots: &[u8]) -> bool
     requires { length slots.now ≡ slots_length }
     ensures { result ≡ queue_right last count slots.now }
 {
-    if count > MOST_QUEUED {
+    if count > MOST_QUEUED || last > count {
         return false;
     }
-    if last > count {
-        return false;
-    }
-    let mut left = count;
-    let mut at: usize = 0;
-    while left > 0 {
-        if slots[at] > 1 {
+    let queued = &slots[..SLOT_LENGTH * count as usize];
+    for slot in queued.chunks_exact(SLOT_LENGTH) {
+        if slot[0] > 1 || slot[1] as usize > MOST_DATA {
             return false;
         }
-        if slots[at + 1] as usize > MOST_DATA {
-            return false;
-        }
-        at += SLOT_LENGTH;
-        left -= 1;
     }
     true
 }
@@ -62,14 +47,12 @@ pub(crate) fn queues_right(lasts: &[u8], counts: &[u8], slots: &[u8]) -> bool
     requires { (length lasts.now ≡ length counts.now) × (length slots.now ≡ slots_length * length counts.now) }
     ensures { result ≡ each_below (device_right lasts.now counts.now slots.now) (length counts.now) }
 {
-    let mut i = 0;
-    while i < counts.len() {
+    for (i, count) in counts.iter().enumerate() {
         let start = SLOTS_LENGTH * i;
         let end = start + SLOTS_LENGTH;
-        if !queue_right(lasts[i], counts[i], &slots[start..end]) {
+        if !queue_right(lasts[i], *count, &slots[start..end]) {
             return false;
         }
-        i += 1;
     }
     true
 }

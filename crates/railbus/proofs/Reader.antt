@@ -1,5 +1,6 @@
 -- Each outcome of the reader, by the characters of the input that lead to it, in the order of the refusals.
 -- Assumes nothing.
+use Rattle.std.specs.Prelude.{Ok, Err}
 use mathlib.Core.Path.{◌≡◌, refl, sym, ap, ap₂, ◌∙◌, subst}
 use mathlib.Core.Bool.{Bool, true, false, not, ◌&&◌, ◌||◌}
 use mathlib.Core.List.{List, [], ◌∷◌}
@@ -20,7 +21,6 @@ use Rattle.railbus.specs.Hex.{is_digit, spelled}
 use Rattle.railbus.specs.Layout.{is_short, is_long, length_for, railbus_framing}
 use Rattle.railbus.specs.Reading.{due, message_for, check_fails, no_digit_from, found_in, packet_by, read_packet}
 use Rattle.railbus.specs.declared.Packet.{Packet}
-use Rattle.railbus.specs.declared.PacketRead.TheVariants.{Found, Refused}
 use Rattle.railbus.proofs.Digits.{digits_due, pair_due, due_behind_lem}
 
 -- no packet is shorter than nine characters
@@ -56,7 +56,7 @@ module _ (letter : ℕ) (input : List ℕ) (fills : length input ≡ length_for 
 abbrev carried_in : List ℕ → List ℕ
 carried_in input = take (length input - 7) (drop 5 input)
 
-pub read_short : (input : List ℕ) → length input < 9 → read_packet input ≡ Refused (at_place frame_length 0)
+pub read_short : (input : List ℕ) → length input < 9 → read_packet input ≡ Err (at_place frame_length 0)
 unfolding read_packet
 read_short input short = ap (packet_by input) (short_refused railbus_framing input 0 (omega arith))
 
@@ -87,22 +87,22 @@ module _ (input : List ℕ) (long : 9 ≤ length input) where
       ap (packet_by input)
       (long_judged railbus_framing input 0 (omega arith) ∙ ap (λ (bytes : List ℕ). judged railbus_framing 0 bytes (check_of input)) body_is)
 
-  pub read_first : (get_or input 0 0 ≡ 0x52 → ⊥) → read_packet input ≡ Refused (at_place frame_head 0)
+  pub read_first : (get_or input 0 0 ≡ 0x52 → ⊥) → read_packet input ≡ Err (at_place frame_head 0)
   unfolding judged passed
   read_first other = opened ∙ simp (ne_eqb 0x52 (get_or input 0 0) (λ e. other (sym e)))
 
   module _ (first : get_or input 0 0 ≡ 0x52) where
-    pub read_second : (get_or input 1 0 ≡ 0x50 → ⊥) → read_packet input ≡ Refused (at_place frame_head 1)
+    pub read_second : (get_or input 1 0 ≡ 0x50 → ⊥) → read_packet input ≡ Err (at_place frame_head 1)
     unfolding judged passed
     read_second other = opened ∙ simp (eq-eqb 0x52 (get_or input 0 0) (sym first), ne_eqb 0x50 (get_or input 1 0) (λ e. other (sym e)))
 
     module _ (second : get_or input 1 0 ≡ 0x50) where
-      pub read_letter : (is_short letter || is_long letter) ≡ false → read_packet input ≡ Refused (at_place subcommand_wrong 4)
+      pub read_letter : (is_short letter || is_long letter) ≡ false → read_packet input ≡ Err (at_place subcommand_wrong 4)
       unfolding judged passed
       read_letter refuses = opened ∙ simp (eq-eqb 0x52 (get_or input 0 0) (sym first), eq-eqb 0x50 (get_or input 1 0) (sym second), refuses)
 
       module _ (takes : (is_short letter || is_long letter) ≡ true) where
-        pub read_length : (length input ≡ length_for letter → ⊥) → read_packet input ≡ Refused (at_place frame_length 0)
+        pub read_length : (length input ≡ length_for letter → ⊥) → read_packet input ≡ Err (at_place frame_length 0)
         unfolding judged passed
         read_length other =
             opened
@@ -148,7 +148,7 @@ made letter address register value =
     record { address = spelled address; register = spelled register; message = message_for letter (spelled value) }
 
 pub found_digit : (letter : ℕ) (input : List ℕ) (place : ℕ) → place ≡ no_digit_from 0 input → place < length input
-    → found_in input (take 4 input) letter (carried_in input) ≡ Refused (at_place digit_wrong place)
+    → found_in input (take 4 input) letter (carried_in input) ≡ Err (at_place digit_wrong place)
 unfolding found_in
 found_digit letter input place is amiss = simp (sym is, lt-ltb place (length input) amiss)
 
@@ -177,18 +177,18 @@ module _ (letter : ℕ) (input : List ℕ) (fills : length input ≡ length_for 
     fails_is : check_fails input ≡ fails
     fails_is = ap (λ (n : ℕ). leb examined n && not (eqb n (checksum (take (length input - 2) input)))) (sym sent_is)
 
-    pub found_check : fails ≡ true → found_in input (take 4 input) letter (carried_in input) ≡ Refused (at_place frame_check (length input - 2))
+    pub found_check : fails ≡ true → found_in input (take 4 input) letter (carried_in input) ≡ Err (at_place frame_check (length input - 2))
     unfolding found_in
     found_check t = simp (le-ltb (no_digit_from 0 input) (length input) all_right, fails_is ∙ t)
 
     pub found_packet : fails ≡ false
         → found_in input (take 4 input) letter (carried_in input)
-        ≡ Found (made letter (take 2 (drop 2 input)) (take 2 (drop 5 input)) (take (length input - 9) (drop 7 input))) (leb examined sent)
+        ≡ Ok (made letter (take 2 (drop 2 input)) (take 2 (drop 5 input)) (take (length input - 9) (drop 7 input)), leb examined sent)
     unfolding found_in
     found_packet t =
         let long = length_least letter input fills in
         (simp (le-ltb (no_digit_from 0 input) (length input) all_right, fails_is ∙ t))
-        ∙ ap₂ Found
+        ∙ ap₂ (λ (q : Packet) (b : Bool). Ok (q, b))
         (ap (λ (l : List ℕ). made letter l (take 2 (carried_in input)) (drop 2 (carried_in input))) (address_part input)
         ∙ ap₂ (made letter (take 2 (drop 2 input))) (register_part input long) (data_part input long))
         (ap (λ (n : ℕ). leb examined n) (sym sent_is))

@@ -1,5 +1,6 @@
 -- Reading and writing Railbus packets are inverse to each other: the proof of `RailbusPackets`.
 -- Assumes nothing.
+use Rattle.std.specs.Prelude.{Result, Ok, Err}
 use mathlib.Core.Path.{◌≡◌, refl, sym, ap, ap₂, ◌∙◌, subst, subst₂}
 use mathlib.Core.Bool.{Bool, true, false, not, ◌&&◌, ◌||◌}
 use mathlib.Core.List.{List, [], ◌∷◌, ◌++◌}
@@ -25,8 +26,6 @@ use Rattle.railbus.specs.RoundTrip.{RailbusPackets}
 use Rattle.railbus.specs.declared.Message.{Message}
 use Rattle.railbus.specs.declared.Message.TheVariants.{Bare, With}
 use Rattle.railbus.specs.declared.Packet.{Packet}
-use Rattle.railbus.specs.declared.PacketRead.{PacketRead}
-use Rattle.railbus.specs.declared.PacketRead.TheVariants.{Found, Refused}
 use Rattle.railbus.proofs.Digits.{digit_most, digits_due, due_behind_lem, pair_due}
 use Rattle.railbus.proofs.Spelling.{digit_is, digits_all, spelled_digits, spelled_lt, digits_spelled}
 use Rattle.railbus.proofs.Letters.{letter_taken, letter_lt, letter_length, message_back, letter_least, letter_back, data_back}
@@ -146,7 +145,7 @@ all_right p check each =
     (all_append is_digit (carried_of p) check (all_append is_digit (digits 2 p.register) (data_digits p.message) (digits_all 2 p.register) (data_all p.message)) each)
 
 back : (p : Packet) → Holds p → (sum : ℕ) → sum < 256 → (leb examined sum && not (eqb sum (checksum (packet_body p)))) ≡ false
-    → read_packet (packet_body p ++ digits 2 sum) ≡ Found p (leb examined sum)
+    → read_packet (packet_body p ++ digits 2 sum) ≡ Ok (p, leb examined sum)
 unfolding found_in read_packet
 back p holds sum small right =
     let check = digits 2 sum in
@@ -156,19 +155,19 @@ back p holds sum small right =
     let before : body_of input ≡ packet_body p = body_cut (packet_body p) check two in
     let stand : length input ≤ no_digit_from 0 input = omega (arith, all_right p check (digits_all 2 sum)) in
     ap (packet_by input) (read_with p check two)
-    ∙ simp (le-ltb (no_digit_from 0 input) (length input) stand, sent, before, right) (ap (λ (q : Packet). Found q (leb examined sum)) (packet_is p holds))
+    ∙ simp (le-ltb (no_digit_from 0 input) (length input) stand, sent, before, right) (ap (λ (q : Packet). Ok (q, leb examined sum)) (packet_is p holds))
 
-packet_back : (p : Packet) → Holds p → read_packet (packet_text p) ≡ Found p true
+packet_back : (p : Packet) → Holds p → read_packet (packet_text p) ≡ Ok (p, true)
 unfolding frame packet_body packet_text
 packet_back p holds =
     let sum = checksum (packet_body p) in
     let high : leb examined sum ≡ true = le-leb examined sum (omega arith) in
-    back p holds sum (checksum_lt p) (simp (high, eq-eqb sum sum refl)) ∙ ap (Found p) high
+    back p holds sum (checksum_lt p) (simp (high, eq-eqb sum sum refl)) ∙ ap (λ (b : Bool). Ok (p, b)) high
 
-unchecked_back : (p : Packet) → Holds p → (sum : ℕ) → sum < examined → read_packet (packet_body p ++ digits 2 sum) ≡ Found p false
+unchecked_back : (p : Packet) → Holds p → (sum : ℕ) → sum < examined → read_packet (packet_body p ++ digits 2 sum) ≡ Ok (p, false)
 unchecked_back p holds sum low =
     let clear : leb examined sum ≡ false = lt-leb examined sum low in
-    back p holds sum (omega arith) (simp clear) ∙ ap (Found p) clear
+    back p holds sum (omega arith) (simp clear) ∙ ap (λ (b : Bool). Ok (p, b)) clear
 
 -- ---- what is accepted is what would be written
 
@@ -254,15 +253,21 @@ read_made x y letter carried check two takes fits stand passes =
     }
 
 -- a test that refuses has failed where a packet is found
-found_on : (t : Bool) (why : Refusal) (rest : PacketRead) (p : Packet) (checked : Bool) → pick t (Refused why) rest ≡ Found p checked → (t ≡ false) × (rest ≡ Found p checked)
+found_on : (t : Bool) (why : Refusal) (rest : Result (Packet × Bool) Refusal) (p : Packet) (checked : Bool) → pick t (Err why) rest ≡ Ok (p, checked) → (t ≡ false) × (rest ≡ Ok (p, checked))
 found_on true why rest p checked e = let z : ◌≡◌ {A = ℕ} 0 1 = cc in absurd (omega arith)
 found_on false why rest p checked e = (refl, e)
 
-read_exact : (input : List ℕ) (p : Packet) (checked : Bool) → read_packet input ≡ Found p checked → Read input p checked
+-- an answer names its packet, and whether its checksum was examined
+answer_parts : (q p : Packet) (asked checked : Bool) → ◌≡◌ {A = Result (Packet × Bool) Refusal} (Ok (q, asked)) (Ok (p, checked)) → (q ≡ p) × (asked ≡ checked)
+answer_parts q p asked checked e =
+    let same : ◌≡◌ {A = Packet × Bool} (q, asked) (p, checked) = cc in
+    (ap (λ (x : Packet × Bool). x.0) same, ap (λ (x : Packet × Bool). x.1) same)
+
+read_exact : (input : List ℕ) (p : Packet) (checked : Bool) → read_packet input ≡ Ok (p, checked) → Read input p checked
 unfolding found_in read_packet
 read_exact input p checked e = by (framed_at railbus_framing input 0) refl e
   where
-    by : (r : FrameRead) → framed_at railbus_framing input 0 ≡ r → packet_by input r ≡ Found p checked → Read input p checked
+    by : (r : FrameRead) → framed_at railbus_framing input 0 ≡ r → packet_by input r ≡ Ok (p, checked) → Read input p checked
     by (framed first letter carried) read e =
         let stands = exact railbus_framing (omega arith) input 0 first letter carried read in
         let marked = first_four first (letter ∷ carried) stands.sound.width stands.sound.marked in
@@ -272,23 +277,22 @@ read_exact input p checked e = by (framed_at railbus_framing input 0) refl e
         let is_text : input ≡ text = stands.rest ∙ ap (λ (l : List ℕ). body l letter carried ++ check_of input) marked.2 in
         let p0 = found_on (ltb (no_digit_from 0 input) (length input)) _ _ p checked e in
         let p1 = found_on (check_fails input) _ _ p checked p0.1 in
-        let is_packet : packet_of first letter carried ≡ p = cc in
-        let is_checked : is_examined input ≡ checked = cc in
+        let found = answer_parts (packet_of first letter carried) p (is_examined input) checked p1.1 in
         let stand : length text ≤ no_digit_from 0 text = subst (λ (l : List ℕ). length l ≤ no_digit_from 0 l) is_text (ltb-false (no_digit_from 0 input) (length input) p0.0) in
         let was_read = read_made x y letter carried (check_of input) stands.two stands.sound.taken
         (eqb-true (length carried + 7) (length_for letter) stands.sound.fitting) stand (ap check_fails (sym is_text) ∙ p1.0) in
         subst (λ (l : List ℕ). Read l p checked) (sym is_text)
-        (subst₂ (λ (q : Packet) (b : Bool). Read text q b) (ap (λ (l : List ℕ). packet_of l letter carried) (sym marked.2) ∙ is_packet) (ap is_examined (sym is_text) ∙ is_checked) was_read)
+        (subst₂ (λ (q : Packet) (b : Bool). Read text q b) (ap (λ (l : List ℕ). packet_of l letter carried) (sym marked.2) ∙ found.0) (ap is_examined (sym is_text) ∙ found.1) was_read)
     by (wrong why) read e = let z : ◌≡◌ {A = ℕ} 0 1 = cc in absurd (omega arith)
 
-packet_exact : (input : List ℕ) (p : Packet) → read_packet input ≡ Found p true → Holds p × (input ≡ packet_text p)
+packet_exact : (input : List ℕ) (p : Packet) → read_packet input ≡ Ok (p, true) → Holds p × (input ≡ packet_text p)
 unfolding frame packet_body packet_text
 packet_exact input p e =
     let r = read_exact input p true e in
     let same : r.sum ≡ checksum (packet_body p) = eqb-true r.sum (checksum (packet_body p)) (not-false (eqb r.sum (checksum (packet_body p))) r.right) in
     (r.holds, r.whole ∙ ap (λ (n : ℕ). packet_body p ++ digits 2 n) same)
 
-unchecked_exact : (input : List ℕ) (p : Packet) → read_packet input ≡ Found p false
+unchecked_exact : (input : List ℕ) (p : Packet) → read_packet input ≡ Ok (p, false)
     → Holds p × ((sum : ℕ) × (sum < examined) × (input ≡ packet_body p ++ digits 2 sum))
 unchecked_exact input p e =
     let r = read_exact input p false e in

@@ -1,5 +1,6 @@
 -- The source's packets, of the definitions.
 -- Assumes nothing.
+use Rattle.std.specs.Prelude.{Ok, Err}
 use mathlib.Core.Path.{◌≡◌, refl}
 use mathlib.Core.Bool.{true, false}
 use mathlib.Core.List.{[], ◌∷◌}
@@ -14,7 +15,6 @@ use Rattle.railbus.specs.declared.Short.TheVariants.{ReadRequest}
 use Rattle.railbus.specs.declared.Long.TheVariants.{WriteRequest, ReadAcknowledge, Special}
 use Rattle.railbus.specs.declared.Message.TheVariants.{Bare, With}
 use Rattle.railbus.specs.declared.Packet.{Packet}
-use Rattle.railbus.specs.declared.PacketRead.TheVariants.{Found, Refused}
 
 -- register 0 of device FF is asked for, and holds 0015002A
 abbrev request : Packet
@@ -40,17 +40,17 @@ unfolding step steps crc7_bytes crc7 frame digit digits packet_text
 worked_texts = (refl, refl, refl, refl)
 
 -- RPFFR009E is read back with its checksum, and RPFFR0000 without
-pub worked_reads : (read_packet (0x52 ∷ 0x50 ∷ 0x46 ∷ 0x46 ∷ 0x52 ∷ 0x30 ∷ 0x30 ∷ 0x39 ∷ 0x45 ∷ []) ≡ Found request true)
-    × (read_packet (0x52 ∷ 0x50 ∷ 0x46 ∷ 0x46 ∷ 0x52 ∷ 0x30 ∷ 0x30 ∷ 0x30 ∷ 0x30 ∷ []) ≡ Found request false)
+pub worked_reads : (read_packet (0x52 ∷ 0x50 ∷ 0x46 ∷ 0x46 ∷ 0x52 ∷ 0x30 ∷ 0x30 ∷ 0x39 ∷ 0x45 ∷ []) ≡ Ok (request, true))
+    × (read_packet (0x52 ∷ 0x50 ∷ 0x46 ∷ 0x46 ∷ 0x52 ∷ 0x30 ∷ 0x30 ∷ 0x30 ∷ 0x30 ∷ []) ≡ Ok (request, false))
 unfolding step steps crc7_bytes crc7 is_digit digit_value spelled_from passed judged framed_at no_digit_from found_in read_packet
 worked_reads = (refl, refl)
 
 -- RPFFR009F, RPFFR0, RPFFr009E and RPfFR009E are refused: another checksum, too short, no letter, no digit; RPfFR009E0 for its length, and not
 -- for what stands where a digit is due
-pub worked_refusals : (read_packet (0x52 ∷ 0x50 ∷ 0x46 ∷ 0x46 ∷ 0x52 ∷ 0x30 ∷ 0x30 ∷ 0x39 ∷ 0x46 ∷ []) ≡ Refused (at_place frame_check 7))
-    × (read_packet (0x52 ∷ 0x50 ∷ 0x46 ∷ 0x46 ∷ 0x52 ∷ 0x30 ∷ []) ≡ Refused (at_place frame_length 0))
-    × (read_packet (0x52 ∷ 0x50 ∷ 0x46 ∷ 0x46 ∷ 0x72 ∷ 0x30 ∷ 0x30 ∷ 0x39 ∷ 0x45 ∷ []) ≡ Refused (at_place subcommand_wrong 4))
-    × (read_packet (0x52 ∷ 0x50 ∷ 0x66 ∷ 0x46 ∷ 0x52 ∷ 0x30 ∷ 0x30 ∷ 0x39 ∷ 0x45 ∷ []) ≡ Refused (at_place digit_wrong 2))
-    × (read_packet (0x52 ∷ 0x50 ∷ 0x66 ∷ 0x46 ∷ 0x52 ∷ 0x30 ∷ 0x30 ∷ 0x39 ∷ 0x45 ∷ 0x30 ∷ []) ≡ Refused (at_place frame_length 0))
+pub worked_refusals : (read_packet (0x52 ∷ 0x50 ∷ 0x46 ∷ 0x46 ∷ 0x52 ∷ 0x30 ∷ 0x30 ∷ 0x39 ∷ 0x46 ∷ []) ≡ Err (at_place frame_check 7))
+    × (read_packet (0x52 ∷ 0x50 ∷ 0x46 ∷ 0x46 ∷ 0x52 ∷ 0x30 ∷ []) ≡ Err (at_place frame_length 0))
+    × (read_packet (0x52 ∷ 0x50 ∷ 0x46 ∷ 0x46 ∷ 0x72 ∷ 0x30 ∷ 0x30 ∷ 0x39 ∷ 0x45 ∷ []) ≡ Err (at_place subcommand_wrong 4))
+    × (read_packet (0x52 ∷ 0x50 ∷ 0x66 ∷ 0x46 ∷ 0x52 ∷ 0x30 ∷ 0x30 ∷ 0x39 ∷ 0x45 ∷ []) ≡ Err (at_place digit_wrong 2))
+    × (read_packet (0x52 ∷ 0x50 ∷ 0x66 ∷ 0x46 ∷ 0x52 ∷ 0x30 ∷ 0x30 ∷ 0x39 ∷ 0x45 ∷ 0x30 ∷ []) ≡ Err (at_place frame_length 0))
 unfolding step steps crc7_bytes crc7 is_digit digit_value spelled_from passed judged framed_at no_digit_from found_in read_packet
 worked_refusals = (refl, refl, refl, refl, refl)

@@ -1,5 +1,7 @@
 -- The text of a packet as the writer puts it down: its digits with the code's numbers, and how long it is.
 -- Assumes nothing.
+use Rattle.std.specs.Prelude.{Result}
+use Rattle.refusal.specs.declared.Refusal.{Refusal}
 use mathlib.Core.Path.{◌≡◌, refl, sym, ap, ap₂, ◌∙◌}
 use mathlib.Core.List.{List, [], ◌∷◌, ◌++◌}
 use Prim.Native.Nat.{ℕ, zero, suc, ◌+◌, ◌/◌, ◌%◌, ◌^◌, ◌≤◌, ◌<◌}
@@ -9,7 +11,6 @@ use lib.ListN.{length, get_or, set, take, length-append}
 use Rattle.lists.specs.Starting.{starting}
 use Rattle.lists.proofs.Filling.{put_whole}
 use Rattle.refusal.specs.Output.{bytes, fitting, Wrote}
-use Rattle.refusal.specs.declared.Written.{Written}
 use Rattle.refusal.proofs.Writer.{wrote_same}
 use Rattle.framing.specs.Framing.{frame}
 use Rattle.framing.proofs.CheckBehind.{two_behind}
@@ -88,7 +89,7 @@ check_behind characters old out sum high low put right small is_high is_low room
     (ap₂ (λ (x y : ℕ). x ∷ y ∷ []) is_high is_low ∙ sym (byte_digits sum small) ∙ ap (digits 2) right)
 
 -- what was written with the checksum behind it, under another name
-pub checked_wrote : (characters characters' : List ℕ) (r : Written) (old new : List ℕ)
+pub checked_wrote : (characters characters' : List ℕ) (r : Result ℕ Refusal) (old new : List ℕ)
     → Wrote id (fitting (length old) (bytes (characters ++ check_digits characters))) r old new → characters ≡ characters'
     → Wrote id (fitting (length old) (bytes (characters' ++ check_digits characters'))) r old new
 checked_wrote characters characters' r old new wrote is =
@@ -107,7 +108,7 @@ body_is p message a b letter c d address register is_message is_a is_b is_letter
     simp (is_a, is_b, is_letter, is_c, is_d, ← is_message, byte_digits p.address address, byte_digits p.register register)
 
 -- .. and so for the whole packet
-pub packet_wrote : (p : Packet) (characters : List ℕ) (r : Written) (old new : List ℕ)
+pub packet_wrote : (p : Packet) (characters : List ℕ) (r : Result ℕ Refusal) (old new : List ℕ)
     → Wrote id (fitting (length old) (bytes (characters ++ check_digits characters))) r old new → characters ≡ packet_body p
     → Wrote id (write_packet p (length old)) r old new
 unfolding frame packet_body packet_text write_packet

@@ -1,6 +1,7 @@
 -- The reader of Railbus packets, rule R3.
 -- Assumes nothing.
-use Rattle.std.specs.Prelude.{ℕ, suc, ◌-◌, Bool, not, ◌&&◌, ◌||◌, List, [], ◌∷◌, eqb, leb, ltb, length, take, drop}
+use Rattle.refusal.specs.declared.Refusal.{Refusal}
+use Rattle.std.specs.Prelude.{ℕ, suc, ◌-◌, Bool, not, ◌&&◌, ◌||◌, List, [], ◌∷◌, eqb, leb, ltb, length, take, drop, Result, Ok, Err}
 use Rattle.lists.specs.Choice.{pick}
 use Rattle.refusal.specs.Number.{frame_check, digit_wrong, at_place}
 use Rattle.refusal.specs.Numbers.{Numbers, accepted_with, refused_with}
@@ -15,8 +16,6 @@ use Rattle.railbus.specs.declared.Long.TheVariants.{WriteRequest, ReadAcknowledg
 use Rattle.railbus.specs.declared.Message.{Message}
 use Rattle.railbus.specs.declared.Message.TheVariants.{Bare, With}
 use Rattle.railbus.specs.declared.Packet.{Packet}
-use Rattle.railbus.specs.declared.PacketRead.{PacketRead}
-use Rattle.railbus.specs.declared.PacketRead.TheVariants.{Found, Refused}
 
 -- ---- what a packet says
 
@@ -65,18 +64,18 @@ no_digit_from at (c ∷ cs) = pick (due at && not (is_digit c)) at (no_digit_fro
 -- ---- the reader
 
 -- what is asked of a framed packet: 26 for the digits, 16 for the checksum; success says whether that was examined
-unfoldable pub found_in : List ℕ → List ℕ → ℕ → List ℕ → PacketRead
+unfoldable pub found_in : List ℕ → List ℕ → ℕ → List ℕ → Result (Packet × Bool) Refusal
 found_in input first letter carried =
-    pick (ltb (no_digit_from 0 input) (length input)) (Refused (at_place digit_wrong (no_digit_from 0 input)))
-    (pick (check_fails input) (Refused (at_place frame_check (length input - 2)))
-    (Found (packet_of first letter carried) (is_examined input)))
+    pick (ltb (no_digit_from 0 input) (length input)) (Err (at_place digit_wrong (no_digit_from 0 input)))
+    (pick (check_fails input) (Err (at_place frame_check (length input - 2)))
+    (Ok (packet_of first letter carried, is_examined input)))
 
-abbrev pub packet_by : List ℕ → FrameRead → PacketRead
+abbrev pub packet_by : List ℕ → FrameRead → Result (Packet × Bool) Refusal
 packet_by input (framed first letter carried) = found_in input first letter carried
-packet_by input (wrong why) = Refused why
+packet_by input (wrong why) = Err why
 
 -- before that the framing's numbers: 13 under 9 characters, 14, 15, 13 for the letter's length. Nothing is passed over
-unfoldable pub read_packet : List ℕ → PacketRead
+unfoldable pub read_packet : List ℕ → Result (Packet × Bool) Refusal
 read_packet input = packet_by input (framed_at railbus_framing input 0)
 
 -- ---- its answer as numbers: the letter, address, register, data (0 where there is none), and whether it was examined
@@ -85,6 +84,6 @@ abbrev pub data_of : Message → ℕ
 data_of (Bare short) = 0
 data_of (With long value) = value
 
-abbrev pub packet_numbers : PacketRead → Numbers
-packet_numbers (Found p checked) = accepted_with (letter_of p.message ∷ p.address ∷ p.register ∷ data_of p.message ∷ pick checked 1 0 ∷ [])
-packet_numbers (Refused why) = refused_with why
+abbrev pub packet_numbers : Result (Packet × Bool) Refusal → Numbers
+packet_numbers (Ok (p, checked)) = accepted_with (letter_of p.message ∷ p.address ∷ p.register ∷ data_of p.message ∷ pick checked 1 0 ∷ [])
+packet_numbers (Err why) = refused_with why

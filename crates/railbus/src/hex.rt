@@ -5,19 +5,11 @@ ghost use Rattle.railbus.specs.Hex.{is_digit, digit_value, digit, spelled};
 ghost use Rattle.railbus.specs.Reading.{due, no_digit_from};
 
 // Whether the character is a digit.
+#[tactic(auto, unfolding(crate::specs::Hex::is_digit))]
 fn is_digit(c: u8) -> bool
     ensures { result ≡ is_digit c }
 {
-    if c < 0x30 {
-        return false;
-    }
-    if c <= 0x39 {
-        return true;
-    }
-    if c < 0x41 {
-        return false;
-    }
-    c <= 0x46
+    matches!(c, b'0'..=b'9' | b'A'..=b'F')
 }
 
 // What a digit stands for.
@@ -47,27 +39,19 @@ pub(crate) fn digit(v: u8) -> u8
 fn is_wrong(place: usize, c: u8) -> bool
     ensures { result ≡ (due place && not (is_digit c)) }
 {
-    if place < 2 {
-        return false;
-    }
-    if place == 4 {
-        return false;
-    }
-    !is_digit(c)
+    place >= 2 && place != 4 && !is_digit(c)
 }
 
 // The place of the first character that is no digit where one is due; the length where there is none.
 pub(crate) fn no_digit(input: &[u8]) -> usize
     ensures { result ≡ no_digit_from 0 input.now }
 {
-    let mut at = 0;
-    while at < input.len() {
-        if is_wrong(at, input[at]) {
+    for (at, c) in input.iter().enumerate() {
+        if is_wrong(at, *c) {
             return at;
         }
-        at += 1;
     }
-    at
+    input.len()
 }
 
 // The number that the two digits at this place spell.

@@ -10,7 +10,6 @@ mod hex;
 
 ghost use Rattle.std.specs.Prelude.{◌≡◌, not, ◌&&◌, ◌||◌, ◌++◌, ◌+◌, ◌-◌, ◌≤◌, eqb, leb, length, take, drop};
 ghost use mathlib.Mathlib.Logic.Function.Defs.{id};
-ghost use Rattle.refusal.specs.Number.{output_short, at_place};
 ghost use Rattle.refusal.specs.Output.{bytes, fitting, Wrote};
 ghost use Rattle.crc7.specs.Check.{examined, checksum};
 ghost use Rattle.railbus.specs.Hex.{digits, spelled};
@@ -22,7 +21,7 @@ use crc7::{EXAMINED, checksum};
 use hex::{digit, no_digit, pair_at, word_at};
 use refusal::{
     DIGIT_WRONG, FRAME_CHECK, FRAME_HEAD, FRAME_LENGTH, OUTPUT_SHORT, Refusal, SUBCOMMAND_WRONG,
-    Written,
+    refused,
 };
 
 // The mark that a packet begins with.
@@ -84,21 +83,7 @@ pub struct Packet {
     pub message: Message,
 }
 
-// What the reader finds: a packet, and whether its checksum was examined.
-#[derive(Clone, Copy)]
-pub enum PacketRead {
-    Found(Packet, bool),
-    Refused(Refusal),
-}
-
 // ---- reading
-
-// A refusal of the reader.
-fn refused(number: u8, place: usize) -> PacketRead
-    ensures { result ≡ PacketRead.Refused (at_place number place) }
-{
-    PacketRead::Refused(Refusal { number, place })
-}
 
 // Whether the letter is one of the three without data.
 fn is_short(letter: u8) -> bool
@@ -215,7 +200,7 @@ fn check_fails(sent: u8, input: &[u8], place: usize) -> bool
 
 // What a packet says whose mark, letter and length are right: its digits are asked first, then its
 // checksum.
-fn found_in(letter: u8, input: &[u8]) -> PacketRead
+fn found_in(letter: u8, input: &[u8]) -> Result<(Packet, bool), Refusal>
     requires { length input.now ≡ length_for letter }
     ensures { result ≡ found_in input.now (take 4 input.now) letter (take (length input.now - 7) (drop 5 input.now)) }
 {
@@ -233,11 +218,12 @@ fn found_in(letter: u8, input: &[u8]) -> PacketRead
         register: pair_at(input, 5),
         message: message_of(letter, input),
     };
-    PacketRead::Found(packet, sent >= EXAMINED)
+    Ok((packet, sent >= EXAMINED))
 }
 
-// What a packet says. It must fill the whole input; nothing is passed over.
-pub fn read_packet(input: &[u8]) -> PacketRead
+// What a packet says, and whether its checksum was examined. It must fill the whole input; nothing is
+// passed over.
+pub fn read_packet(input: &[u8]) -> Result<(Packet, bool), Refusal>
     ensures { result ≡ read_packet input.now }
 {
     if input.len() < SHORT_LENGTH {
@@ -280,37 +266,27 @@ pub fn letter_of(message: Message) -> u8
     }
 }
 
-// The refusal of a writer whose output has too little room.
-fn no_room() -> Written
-    ensures { result ≡ Written.Refused (at_place output_short 0) }
-{
-    Written::Refused(Refusal {
-        number: OUTPUT_SHORT,
-        place: 0,
-    })
-}
-
 // Writes the characters and their checksum behind them, at the start of the output, where both fit.
-fn write_checked(characters: &[u8], out: &mut [u8]) -> Written
+fn write_checked(characters: &[u8], out: &mut [u8]) -> Result<usize, Refusal>
     ensures { Wrote id (fitting (length out.old) (bytes (characters.now ++ check_digits characters.now))) result out.old out.new }
 {
     let size = characters.len();
     let room = out.len();
     if room < 2 {
-        return no_room();
+        return refused(OUTPUT_SHORT, 0);
     }
     if room - 2 < size {
-        return no_room();
+        return refused(OUTPUT_SHORT, 0);
     }
     let sum = checksum(characters);
     lists::put(characters, out);
     out[size] = digit(sum / 16);
     out[size + 1] = digit(sum % 16);
-    Written::Length(size + 2)
+    Ok(size + 2)
 }
 
 // Writes a packet with its checksum, the top bit set.
-pub fn write_packet(packet: Packet, out: &mut [u8]) -> Written
+pub fn write_packet(packet: Packet, out: &mut [u8]) -> Result<usize, Refusal>
     ensures { Wrote id (write_packet packet (length out.old)) result out.old out.new }
 {
     let message = packet.message;
@@ -330,7 +306,7 @@ pub fn write_packet(packet: Packet, out: &mut [u8]) -> Written
 }
 
 // .. whose first characters are these, and then the data.
-fn write_long(head: [u8; 7], value: u32, out: &mut [u8]) -> Written
+fn write_long(head: [u8; 7], value: u32, out: &mut [u8]) -> Result<usize, Refusal>
     ensures { Wrote id (fitting (length out.old) (bytes ((head ++ digits 8 value) ++ check_digits (head ++ digits 8 value)))) result out.old out.new }
 {
     let characters = [

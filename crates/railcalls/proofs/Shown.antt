@@ -1,38 +1,22 @@
--- How the answers of packets and devices show as numbers, and what a letter writes.
+-- How the answers of a device show as numbers, and what a letter writes.
 -- Assumes nothing.
 use mathlib.Core.Path.{◌≡◌, refl, ap, ap₂, ◌∙◌, subst}
-use mathlib.Core.Bool.{Bool, true, false, ◌||◌}
+use mathlib.Core.Bool.{true, false, ◌||◌}
 use mathlib.Core.List.{List}
 use Prim.Native.Nat.{ℕ}
-use Rattle.lists.specs.Choice.{pick}
 use Rattle.refusal.specs.Number.{subcommand_wrong, at_place}
 use Rattle.refusal.specs.Output.{Output, refused, Wrote}
 use Rattle.boundary.specs.ForC.{written_for_c}
 use Rattle.boundary.specs.declared.MoorWritten.{MoorWritten}
-use Rattle.railbus.specs.Layout.{letter_of, is_short, is_long}
-use Rattle.railbus.specs.Reading.{message_for, data_of}
+use Rattle.railbus.specs.Layout.{is_short, is_long}
+use Rattle.railbus.specs.Reading.{message_for}
 use Rattle.railbus.specs.Writing.{write_packet}
 use Rattle.railbus.specs.declared.Message.{Message}
-use Rattle.railbus.specs.declared.Packet.{Packet}
-use Rattle.railbus.specs.declared.PacketRead.TheVariants.{Found}
 use Rattle.relay.specs.Calls.{Relaying, Relays, relayed}
 use Rattle.relay.specs.declared.Relayed.{Relayed}
 use Rattle.relay.specs.declared.Remembered.{Remembered}
-use Rattle.relay.specs.declared.Reply.{Reply}
-use Rattle.railcalls.specs.ForC.{railbus_for_c, remembered_for_c, relayed_for_c, write_by_letter}
-use Rattle.railcalls.specs.declared.MoorRailbusRead.{MoorRailbusRead}
-use Rattle.railcalls.specs.declared.MoorRemembered.{MoorRemembered}
+use Rattle.railcalls.specs.ForC.{relayed_for_c, write_by_letter}
 use Rattle.railcalls.specs.declared.MoorRelayed.{MoorRelayed}
-
--- a packet's numbers, by what its letter, its mark of being examined and its data are worked out as
-pub found_shows : (p : Packet) (checked : Bool) (letter on carried : ℕ) → letter ≡ letter_of p.message → on ≡ pick checked 1 0 → carried ≡ data_of p.message
-    → ◌≡◌ {A = MoorRailbusRead} (record { number = 0; letter = letter; address = p.address; reg = p.register; checked = on; carried = carried; place = 0 }) (railbus_for_c (Found p checked))
-found_shows p checked letter on carried l o v = cc
-
--- an answer's numbers beside the write that is remembered
-pub relayed_shows : (reply reply' : Reply) (write : Remembered) (w : MoorRemembered) → reply ≡ reply' → w ≡ remembered_for_c write
-    → record { number = (relayed_for_c reply write).number; write = w; place = (relayed_for_c reply write).place; length = (relayed_for_c reply write).length } ≡ relayed_for_c reply' write
-relayed_shows reply reply' write w e f = cc
 
 -- the promise of a call below, shown as numbers
 pub relays_shown : (given : Remembered → Relaying) (write write' : Remembered) (x : Relayed) (r : MoorRelayed) (buffer registers : List ℕ)

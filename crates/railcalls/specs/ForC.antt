@@ -1,24 +1,24 @@
--- Each answer on Railbus as a struct that C can take. It holds the numbers that stand beside the answer's enum, by their names: rule N1's
+-- Each answer on Railbus as a struct that C can take. It holds the answer's numbers, by their names: rule N1's
 -- number, 0 where nothing is refused, its place, and the values, of which one that is not there is 0. And what C hands in for an enum.
 -- Assumes nothing.
-use Rattle.std.specs.Prelude.{ℕ, ◌||◌, eqb}
+use Rattle.std.specs.Prelude.{ℕ, Bool, ◌||◌, eqb, Option, Result}
 use Rattle.lists.specs.Choice.{pick}
 use Rattle.refusal.specs.Number.{subcommand_wrong, at_place}
 use Rattle.refusal.specs.Numbers.{value}
 use Rattle.refusal.specs.Output.{Output, refused}
+use Rattle.refusal.specs.declared.Refusal.{Refusal}
 use Rattle.railbus.specs.Layout.{is_short, is_long}
 use Rattle.railbus.specs.Reading.{message_for, packet_numbers}
 use Rattle.railbus.specs.Writing.{write_packet}
-use Rattle.railbus.specs.declared.PacketRead.{PacketRead}
+use Rattle.railbus.specs.declared.Packet.{Packet}
 use Rattle.relay.specs.Calls.{reply_numbers}
 use Rattle.relay.specs.declared.Remembered.{Remembered}
 use Rattle.relay.specs.declared.Remembered.TheVariants.{Idle, Running, Finished}
-use Rattle.relay.specs.declared.Reply.{Reply}
 use Rattle.railcalls.specs.declared.MoorRailbusRead.{MoorRailbusRead}
 use Rattle.railcalls.specs.declared.MoorRemembered.{MoorRemembered}
 use Rattle.railcalls.specs.declared.MoorRelayed.{MoorRelayed}
 
-abbrev pub railbus_for_c : PacketRead → MoorRailbusRead
+abbrev pub railbus_for_c : Result (Packet × Bool) Refusal → MoorRailbusRead
 railbus_for_c x =
     let n = packet_numbers x in
     record { number = n.number; letter = value n 0; address = value n 1; reg = value n 2; checked = value n 4; carried = value n 3; place = n.place }
@@ -36,7 +36,7 @@ abbrev pub remembered_from_c : MoorRemembered → Remembered
 remembered_from_c w = pick (eqb w.phase 1) (Running w.reg w.carried) (pick (eqb w.phase 2) (Finished w.reg w.carried) Idle)
 
 -- what a relay device gives
-abbrev pub relayed_for_c : Reply → Remembered → MoorRelayed
+abbrev pub relayed_for_c : Result (Option ℕ) Refusal → Remembered → MoorRelayed
 relayed_for_c reply write =
     let n = reply_numbers reply in
     record { number = n.number; write = remembered_for_c write; place = n.place; length = value n 0 }

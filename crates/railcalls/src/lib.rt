@@ -5,7 +5,6 @@
 #![tactic(auto)]
 
 ghost use Rattle.std.specs.Prelude.{◌≡◌, length};
-ghost use Rattle.lists.specs.Choice.{pick};
 ghost use Rattle.refusal.specs.Output.{Wrote};
 ghost use Rattle.crc7.specs.Check.{checksum};
 ghost use Rattle.railbus.specs.Reading.{read_packet};
@@ -15,9 +14,9 @@ ghost use Rattle.boundary.specs.ForC.{written_for_c};
 ghost use Rattle.railcalls.specs.ForC.{railbus_for_c, remembered_for_c, remembered_from_c, relayed_for_c, write_by_letter};
 
 use boundary::{MoorWritten, refused_for_c, written_for_c};
-use railbus::{Packet, PacketRead, is_letter, letter_of, message_for, value_of};
+use railbus::{Packet, is_letter, letter_of, message_for, value_of};
 use refusal::{Refusal, SUBCOMMAND_WRONG};
-use relay::{Relayed, Remembered, Reply};
+use relay::{Relayed, Remembered};
 
 // A packet that was read: its letter and numbers, and whether its checksum was examined.
 #[repr(C)]
@@ -59,32 +58,23 @@ const FINISHED: u8 = 2;
 
 // ---- what the crates below answer, as numbers
 
-fn flag(on: bool) -> u8
-    ensures { result ≡ pick on 1 0 }
-{
-    if on {
-        return 1;
-    }
-    0
-}
-
-fn railbus_for_c(x: PacketRead) -> MoorRailbusRead
+fn railbus_for_c(x: Result<(Packet, bool), Refusal>) -> MoorRailbusRead
     ensures { result ≡ railbus_for_c x }
 {
     match x {
-        PacketRead::Found(packet, checked) => {
+        Ok((packet, checked)) => {
             let message = packet.message;
             MoorRailbusRead {
                 number: 0,
                 letter: letter_of(message),
                 address: packet.address,
                 reg: packet.register,
-                checked: flag(checked),
+                checked: u8::from(checked),
                 carried: value_of(message),
                 place: 0,
             }
         }
-        PacketRead::Refused(why) => MoorRailbusRead {
+        Err(why) => MoorRailbusRead {
             number: why.number,
             letter: 0,
             address: 0,
@@ -122,35 +112,25 @@ fn remembered_for_c(write: Remembered) -> MoorRemembered
 fn remembered_from_c(write: MoorRemembered) -> Remembered
     ensures { result ≡ remembered_from_c write }
 {
-    if write.phase == RUNNING {
-        return Remembered::Running(write.reg, write.carried);
+    match write.phase {
+        RUNNING => Remembered::Running(write.reg, write.carried),
+        FINISHED => Remembered::Finished(write.reg, write.carried),
+        _ => Remembered::Idle,
     }
-    if write.phase == FINISHED {
-        return Remembered::Finished(write.reg, write.carried);
-    }
-    Remembered::Idle
 }
 
 fn relayed_for_c(x: Relayed) -> MoorRelayed
     ensures { result ≡ relayed_for_c x.reply x.write }
 {
-    let reply = x.reply;
-    let remembered = x.write;
-    let write = remembered_for_c(remembered);
-    match reply {
-        Reply::Answer(length) => MoorRelayed {
+    let write = remembered_for_c(x.write);
+    match x.reply {
+        Ok(answer) => MoorRelayed {
             number: 0,
             write,
             place: 0,
-            length,
+            length: answer.unwrap_or(0),
         },
-        Reply::NoAnswer => MoorRelayed {
-            number: 0,
-            write,
-            place: 0,
-            length: 0,
-        },
-        Reply::Refused(why) => MoorRelayed {
+        Err(why) => MoorRelayed {
             number: why.number,
             write,
             place: why.place,

@@ -1,12 +1,14 @@
 // The tool's relay device: set as it stands, offered packets, told that its write has finished, and
 // shown.
 use desk::expected::refused_packet;
-use desk::number::{NumberRead, digits, fault_of, last_number, one_byte};
+use desk::fault::Fault;
+use desk::number::{eight_digits, last_byte, last_number, one_byte};
 use desk::part::{lent, start_of};
 use desk::say::{Page, three, two};
 use desk::state::{Desk, FILL, FULL, Relay};
-use desk::{say, state, texts, word};
-use relay::{Remembered, Reply};
+use desk::texts::Text;
+use desk::{say, state, texts};
+use relay::{Relayed, Remembered};
 
 // An access byte of any value can be tried.
 const MOST_ACCESS: u64 = 255;
@@ -14,85 +16,73 @@ const MOST_ACCESS: u64 = 255;
 // ---- the device as it stands
 
 pub(crate) fn relay(rt: &impl Print, line: &[u8], at: usize, d: Desk) -> Desk {
-    let read = one_byte(line, at);
-    match read {
-        NumberRead::Wrong(why) => d.wrong(rt, why),
-        NumberRead::Number(address, next) => {
-            if word::more(line, next) {
-                return d.extra(rt, line, next);
-            }
-            let fresh = state::fresh_relay((address % 256) as u8);
-            d.with_relay(fresh, d.page).ok(rt)
-        }
+    match last_byte(line, at) {
+        Ok(address) => d.with_relay(state::fresh_relay(address), d.page).ok(rt),
+        Err(why) => d.wrong(rt, why),
     }
+}
+
+// A register as a line has it: which one, what it holds, and its access byte.
+fn register_at(line: &[u8], at: usize) -> Result<(u8, u32, u8), Fault> {
+    let (number, value_at) = one_byte(line, at)?;
+    let (value, access_at) = eight_digits(line, value_at)?;
+    let access = last_number(line, access_at, MOST_ACCESS)?;
+    Ok((number, value, (access % 256) as u8))
 }
 
 // The remembered write stays.
 pub(crate) fn register(rt: &impl Print, line: &[u8], at: usize, d: Desk) -> Desk {
-    let first = one_byte(line, at);
-    let NumberRead::Number(register, second_at) = first else {
-        return d.wrong(rt, fault_of(first));
-    };
-    let second = digits(line, second_at, 8);
-    let NumberRead::Number(value, third_at) = second else {
-        return d.wrong(rt, fault_of(second));
-    };
-    let third = last_number(line, third_at, MOST_ACCESS);
-    let NumberRead::Number(access, _) = third else {
-        return d.wrong(rt, fault_of(third));
-    };
-    let at = (register % 256) as usize;
-    let mut device = d.relay;
-    device.registers[at] = (value % 0x100000000) as u32;
-    device.access[at] = (access % 256) as u8;
-    d.with_relay(device, d.page).ok(rt)
+    match register_at(line, at) {
+        Ok((number, value, access)) => {
+            let i = number as usize;
+            let mut device = d.relay;
+            device.registers[i] = value;
+            device.access[i] = access;
+            d.with_relay(device, d.page).ok(rt)
+        }
+        Err(why) => d.wrong(rt, why),
+    }
 }
 
 // ---- packets, and the end of a write
 
-// A packet is offered to the device, or it is told that its write has finished.
-pub(crate) fn call(rt: &impl Print, finishing: bool, packet: &[u8], d: Desk) -> Desk {
+pub(crate) fn offer(rt: &impl Print, packet: &[u8], d: Desk) -> Desk {
     let mut answer = [FILL; FULL];
-    let device = d.relay;
-    let after = called(finishing, packet, device, lent(&mut answer, d.room));
-    let left = after.device;
-    let reply = after.reply;
-    d.with_relay(left, say_reply(rt, reply, packet, &answer, d.page))
+    let mut device = d.relay;
+    let given = relay::offer(
+        device.address,
+        packet,
+        &device.registers,
+        &device.access,
+        device.write,
+        lent(&mut answer, d.room),
+    );
+    device.write = given.write;
+    d.with_relay(device, say_reply(rt, given, packet, &answer, d.page))
 }
 
-// What a call gave, and the device that it left.
-#[derive(Clone, Copy)]
-struct After {
-    device: Relay,
-    reply: Reply,
-}
-
-fn called(finishing: bool, packet: &[u8], device: Relay, answer: &mut [u8]) -> After {
+pub(crate) fn finish(rt: &impl Print, d: Desk) -> Desk {
+    let mut answer = [FILL; FULL];
+    let mut device = d.relay;
     let mut registers = device.registers;
     let access = device.access;
-    let write = device.write;
-    let address = device.address;
-    let given = if finishing {
-        relay::finish(address, &mut registers, &access, write, answer)
-    } else {
-        relay::offer(address, packet, &registers, &access, write, answer)
-    };
-    let write = given.write;
-    let reply = given.reply;
-    let device = Relay {
-        address,
-        registers,
-        access,
-        write,
-    };
-    After { device, reply }
+    let given = relay::finish(
+        device.address,
+        &mut registers,
+        &access,
+        device.write,
+        lent(&mut answer, d.room),
+    );
+    device.registers = registers;
+    device.write = given.write;
+    d.with_relay(device, say_reply(rt, given, b"", &answer, d.page))
 }
 
-fn say_reply(rt: &impl Print, reply: Reply, packet: &[u8], answer: &[u8], page: Page) -> Page {
-    match reply {
-        Reply::Answer(n) => say::spelled(rt, page, texts::ANSWER, start_of(answer, n)),
-        Reply::NoAnswer => texts::plain(rt, page, texts::NO_ANSWER),
-        Reply::Refused(why) => refused_packet(rt, page, why, packet),
+fn say_reply(rt: &impl Print, given: Relayed, packet: &[u8], answer: &[u8], page: Page) -> Page {
+    match given.reply {
+        Ok(Some(n)) => say::spelled(rt, page, Text::Answer, start_of(answer, n)),
+        Ok(None) => texts::plain(rt, page, Text::NoAnswer),
+        Err(why) => refused_packet(rt, page, why, packet),
     }
 }
 
@@ -106,17 +96,12 @@ pub(crate) fn show(rt: &impl Print, d: Desk) -> Desk {
 
 fn say_write(rt: &impl Print, write: Remembered, page: Page) -> Page {
     match write {
-        Remembered::Idle => texts::plain(rt, page, texts::IDLE),
+        Remembered::Idle => texts::plain(rt, page, Text::Idle),
         Remembered::Running(register, value) => {
-            texts::text(rt, page, texts::RUNNING, two(register as u64, value as u64))
+            texts::filled(rt, page, Text::Running, two(register as u64, value as u64))
         }
         Remembered::Finished(register, value) => {
-            texts::text(
-                rt,
-                page,
-                texts::FINISHED,
-                two(register as u64, value as u64),
-            )
+            texts::filled(rt, page, Text::Finished, two(register as u64, value as u64))
         }
     }
 }
@@ -126,20 +111,11 @@ fn say_registers(rt: &impl Print, device: Relay, page: Page) -> Page {
     let registers = device.registers;
     let access = device.access;
     let mut p = page;
-    for i in 0..relay::REGISTERS {
-        p = say_register(rt, i, registers[i], access[i], p);
+    for (i, (value, access)) in registers.iter().zip(access.iter()).enumerate() {
+        if *access != 0 {
+            let numbers = three(i as u64, *value as u64, *access as u64);
+            p = texts::filled(rt, p, Text::Register, numbers);
+        }
     }
     p
-}
-
-fn say_register(rt: &impl Print, i: usize, value: u32, access: u8, page: Page) -> Page {
-    if access == 0 {
-        return page;
-    }
-    texts::text(
-        rt,
-        page,
-        texts::REGISTER,
-        three(i as u64, value as u64, access as u64),
-    )
 }

@@ -4,45 +4,60 @@
 mod device;
 mod packets;
 
-use desk::hex::BytesRead;
 use desk::part::start_of;
 use desk::state::Desk;
 use desk::{hex, word};
 
-// The commands by their names: those on the rest of the line as text, and as bytes, those with words
-// of their own, and those that take no word. A command's number is the place of its name in this list.
-fn number_of(name: &[u8]) -> usize {
-    word::place(
-        b"read-railbus offer-railbus
-read-railbus-hex offer-railbus-hex
-write-railbus relay register
-finish registers",
-        name,
-    )
+// The commands: those on a packet, which is text or bytes, those with words of their own, and those
+// that take no word.
+#[derive(Clone, Copy)]
+pub enum Command {
+    ReadRailbus,
+    OfferRailbus,
+    ReadRailbusHex,
+    OfferRailbusHex,
+    WriteRailbus,
+    Relay,
+    Register,
+    Finish,
+    Registers,
 }
 
-// Whether this is the name of one of them.
-pub fn knows(name: &[u8]) -> bool {
-    number_of(name) < 9
-}
+impl Command {
+    pub fn named(name: &[u8]) -> Option<Command> {
+        match name {
+            b"read-railbus" => Some(Command::ReadRailbus),
+            b"offer-railbus" => Some(Command::OfferRailbus),
+            b"read-railbus-hex" => Some(Command::ReadRailbusHex),
+            b"offer-railbus-hex" => Some(Command::OfferRailbusHex),
+            b"write-railbus" => Some(Command::WriteRailbus),
+            b"relay" => Some(Command::Relay),
+            b"register" => Some(Command::Register),
+            b"finish" => Some(Command::Finish),
+            b"registers" => Some(Command::Registers),
+            _ => None,
+        }
+    }
 
-// Whether it takes the rest of its line as it stands.
-pub fn takes_text(name: &[u8]) -> bool {
-    number_of(name) < 2
-}
+    // Whether it takes the rest of its line as it stands.
+    pub fn takes_text(self) -> bool {
+        matches!(self, Command::ReadRailbus | Command::OfferRailbus)
+    }
 
-pub fn by_name(rt: &impl Print, name: &[u8], line: &[u8], at: usize, d: Desk) -> Desk {
-    let command = number_of(name);
-    if command < 2 {
-        return with_packet(rt, command == 0, rest_of(line, at), d);
+    // .. on the rest of the line, from `at` on.
+    pub fn obey(self, rt: &impl Print, line: &[u8], at: usize, d: Desk) -> Desk {
+        match self {
+            Command::ReadRailbus => read(rt, rest_of(line, at), d),
+            Command::OfferRailbus => device::offer(rt, rest_of(line, at), d),
+            Command::ReadRailbusHex => on_bytes(rt, true, line, at, d),
+            Command::OfferRailbusHex => on_bytes(rt, false, line, at, d),
+            Command::WriteRailbus => packets::write(rt, line, at, d),
+            Command::Relay => device::relay(rt, line, at, d),
+            Command::Register => device::register(rt, line, at, d),
+            Command::Finish => alone(rt, true, line, at, d),
+            Command::Registers => alone(rt, false, line, at, d),
+        }
     }
-    if command < 4 {
-        return on_bytes(rt, command == 2, line, at, d);
-    }
-    if command < 7 {
-        return with_words(rt, command, line, at, d);
-    }
-    alone(rt, command, line, at, d)
 }
 
 // The rest of the line as it stands, without the blanks before it.
@@ -51,37 +66,24 @@ fn rest_of(line: &[u8], at: usize) -> &[u8] {
     word::part(line, w.from, line.len())
 }
 
-// A packet is read, or offered to the device.
-fn with_packet(rt: &impl Print, reading: bool, packet: &[u8], d: Desk) -> Desk {
-    if reading {
-        return d.with_page(packets::read(rt, packet, d.page));
-    }
-    device::call(rt, false, packet, d)
+fn read(rt: &impl Print, packet: &[u8], d: Desk) -> Desk {
+    d.with_page(packets::read(rt, packet, d.page))
 }
 
+// A packet of any bytes is read, or offered to the device.
 fn on_bytes(rt: &impl Print, reading: bool, line: &[u8], at: usize, d: Desk) -> Desk {
     let mut store = [0u8; hex::MOST];
-    let read = hex::bytes(line, at, &mut store);
-    match read {
-        BytesRead::Bytes(n) => with_packet(rt, reading, start_of(&store, n), d),
-        BytesRead::Wrong(why) => d.wrong(rt, why),
+    match hex::bytes(line, at, &mut store) {
+        Ok(n) if reading => read(rt, start_of(&store, n), d),
+        Ok(n) => device::offer(rt, start_of(&store, n), d),
+        Err(why) => d.wrong(rt, why),
     }
 }
 
-fn with_words(rt: &impl Print, command: usize, line: &[u8], at: usize, d: Desk) -> Desk {
-    match command {
-        4 => packets::write(rt, line, at, d),
-        5 => device::relay(rt, line, at, d),
-        _ => device::register(rt, line, at, d),
-    }
-}
-
-fn alone(rt: &impl Print, command: usize, line: &[u8], at: usize, d: Desk) -> Desk {
-    if word::more(line, at) {
-        return d.extra(rt, line, at);
-    }
-    match command {
-        7 => device::call(rt, true, b"", d),
-        _ => device::show(rt, d),
+fn alone(rt: &impl Print, finishing: bool, line: &[u8], at: usize, d: Desk) -> Desk {
+    match word::nothing_more(line, at) {
+        Ok(()) if finishing => device::finish(rt, d),
+        Ok(()) => device::show(rt, d),
+        Err(why) => d.wrong(rt, why),
     }
 }

@@ -1,10 +1,11 @@
 // One call on a relay device: what is answered, and what the device then is.
 use crate::packets::ROOM;
-use crate::rules::{length_for, refused};
-use lists::byte_at;
+use crate::rules::length_for;
+use lists::put;
 use railbus::{Packet, message_for, write_packet};
-use relay::{REGISTERS, Relayed, Remembered, Reply};
-use tally::part::{FILL, holds, lent, lent_words, rest, start};
+use refusal::{Refusal, refused};
+use relay::{REGISTERS, Relayed, Remembered};
+use tally::part::{FILL, holds, lent, rest, start};
 use tally::{Tally, none};
 
 // The device's address.
@@ -16,81 +17,79 @@ pub(crate) struct Device {
     registers: [u32; REGISTERS],
     access: [u8; REGISTERS],
     write: Remembered,
-    reply: Reply,
+    reply: Result<Option<usize>, Refusal>,
     answer: [u8; ROOM],
 }
 
 // A device with registers of 0 that remembers this write. The first nine may be read and written, but 5
 // is absent, 6 may only be read, 7 only written, and 8 has this access byte.
 pub(crate) fn fresh(write: Remembered, eighth: u8) -> Device {
-    let registers = [0u32; REGISTERS];
-    let mut access = [1u8; REGISTERS];
-    lists::put(&[3, 3, 3, 3, 3, 0, 1, 2, eighth], &mut access);
+    let mut access = [1; REGISTERS];
+    put(&[3, 3, 3, 3, 3, 0, 1, 2, eighth], &mut access);
     Device {
-        registers,
+        registers: [0; REGISTERS],
         access,
         write,
-        reply: Reply::NoAnswer,
+        reply: Ok(None),
         answer: [FILL; ROOM],
     }
 }
 
-// A packet is offered, or where there is none the device is told that its write has finished.
-pub(crate) fn call(device: Device, packet: &[u8]) -> Device {
-    let mut answer = [FILL; ROOM];
-    let mut registers = device.registers;
-    let access = device.access;
-    let write = device.write;
-    let relayed = called(packet, &mut registers, &access, write, &mut answer);
-    let write = relayed.write;
-    let reply = relayed.reply;
-    Device {
-        registers,
-        access,
-        write,
-        reply,
-        answer,
-    }
-}
+// What is done with a device: a packet is offered, or where there is none the device is told that its
+// write has finished.
+pub(crate) type Call = Option<&'static [u8]>;
 
 fn called(
-    packet: &[u8],
+    call: Call,
     registers: &mut [u32],
     access: &[u8],
     write: Remembered,
     answer: &mut [u8],
 ) -> Relayed {
-    if packet.len() == 0 {
-        return relay::finish(ADDRESS, registers, access, write, answer);
-    }
-    relay::offer(ADDRESS, packet, registers, access, write, answer)
-}
-
-// The kth of some packets, each filled up to 18 characters; none where it has no letter.
-pub(crate) fn nth(packets: &[u8], k: usize) -> &[u8] {
-    let packet = rest(packets, k % 16 * 18);
-    start(packet, length_for(byte_at(packet, 4)))
-}
-
-// ---- what a call must give: a packet with this letter, - for no answer, ? for number 2, or * for any
-
-// What is replied: how many characters, or the refusal.
-fn number_by(letter: u8) -> usize {
-    if letter == b'?' {
-        return 200;
-    }
-    length_for(letter)
-}
-
-fn number_of(reply: Reply) -> usize {
-    match reply {
-        Reply::Answer(n) => n,
-        Reply::NoAnswer => 0,
-        Reply::Refused(why) => refused(why.number, why.place),
+    match call {
+        Some(packet) => relay::offer(ADDRESS, packet, registers, access, write, answer),
+        None => relay::finish(ADDRESS, registers, access, write, answer),
     }
 }
 
-// What an answer buffer then holds.
+// What a call must give: a packet with this letter, no answer, number 2, or anything.
+#[derive(Clone, Copy)]
+pub(crate) enum Due {
+    Packet(u8),
+    Silence,
+    Refused,
+    Any,
+}
+
+impl Device {
+    pub(crate) fn call(&mut self, call: Call) {
+        self.answer = [FILL; ROOM];
+        let relayed = called(
+            call,
+            &mut self.registers,
+            &self.access,
+            self.write,
+            &mut self.answer,
+        );
+        self.write = relayed.write;
+        self.reply = relayed.reply;
+    }
+
+    // Whether the last call gave what is due, a packet of this register and with this value.
+    pub(crate) fn gave(&self, due: Due, register: u8, value: u32) -> bool {
+        match due {
+            Due::Packet(letter) => {
+                self.reply == Ok(length_for(letter))
+                    && self.answer == answer_by(letter, register, value)
+            }
+            Due::Silence => self.reply == Ok(None) && self.answer == [FILL; ROOM],
+            Due::Refused => self.reply == refused(2, 0) && self.answer == [FILL; ROOM],
+            Due::Any => true,
+        }
+    }
+}
+
+// What an answer buffer holds behind a packet with this letter.
 fn answer_by(letter: u8, register: u8, value: u32) -> [u8; ROOM] {
     let mut answer = [FILL; ROOM];
     let packet = Packet {
@@ -98,86 +97,77 @@ fn answer_by(letter: u8, register: u8, value: u32) -> [u8; ROOM] {
         register,
         message: message_for(letter, value),
     };
-    write_packet(packet, lent(&mut answer, length_for(letter)));
+    let _ = write_packet(packet, &mut answer);
     answer
-}
-
-// Whether the last call gave a packet with this letter, of this register and with this value.
-pub(crate) fn gave(device: Device, letter: u8, register: u8, value: u32) -> bool {
-    if letter == b'*' {
-        return true;
-    }
-    let reply = device.reply;
-    let answer = device.answer;
-    number_of(reply) == number_by(letter) && holds(&answer, &answer_by(letter, register, value))
 }
 
 // ---- groups of cases
 
-// Register 8 with this access byte is read (0), a copy of its running write comes (1), or that finishes
-// (2).
-fn answered(what: usize, access: u8) -> bool {
-    let packets = b"RP93R0800........
-RP93W080000000000
-finish...........";
-    let device = call(fresh(Remembered::Running(8, 0), access), nth(packets, what));
-    let at = place(what, access);
-    gave(
-        device,
-        byte_at(b"NKnKNnnnIIII?", at),
-        8,
-        byte_at(b"0070072200000", at) as u32 % 16,
-    )
-}
-
-fn place(what: usize, access: u8) -> usize {
-    if 3 < access {
-        return 12;
+// Whether register 8 with this access byte answers a call as is due by that: a letter for each of the
+// four access bytes there are, and a value. With any other the device is refused as it stands.
+fn answered(call: Call, access: u8, letters: [u8; 4], values: [u32; 4]) -> bool {
+    let mut device = fresh(Remembered::Running(8, 0), access);
+    device.call(call);
+    match access {
+        0..=3 => {
+            let i = usize::from(access);
+            device.gave(Due::Packet(letters[i]), 8, values[i])
+        }
+        _ => device.gave(Due::Refused, 8, 0),
     }
-    what % 3 * 4 + access as usize % 4
 }
 
-// A read (0) or a finish (1) where so many registers, access bytes and characters of an answer buffer
-// are lent.
-fn lent_so(what: usize, registers: usize, access: usize, room: usize) -> bool {
+// Each access byte: the register is read, a copy of its running write comes, or that finishes.
+pub(crate) fn each_access() -> Tally {
+    let mut t = none();
+    for access in 0..=255u8 {
+        t = t
+            .with(answered(Some(b"RP93R0800"), access, *b"NKnK", [0, 0, 7, 0]))
+            .with(answered(Some(b"RP93W080000000000"), access, *b"Nnnn", [0, 7, 2, 2]))
+            .with(answered(None, access, *b"IIII", [0; 4]));
+    }
+    t
+}
+
+// Whether a call answers as is due where so many registers, access bytes and characters of an answer
+// buffer are lent.
+fn lent_so(call: Call, registers: usize, access: usize, room: usize) -> bool {
     let mut values = [0u32; 257];
     let bytes = [3u8; 257];
     let mut answer = [FILL; ROOM];
     let relayed = called(
-        nth(b"RP93R0100........\nfinish...........", what),
-        lent_words(&mut values, registers),
+        call,
+        lent(&mut values, registers),
         start(&bytes, access),
         Remembered::Running(1, 0x10),
         lent(&mut answer, room),
     );
-    let reply = relayed.reply;
-    let number = number_for(registers, access, room);
-    number_of(reply) == number && holds(rest(&answer, number % 100), b"")
+    let due = due_for(registers, access, room);
+    relayed.reply == due.map(Some) && holds(rest(&answer, due.unwrap_or(0)), b"")
 }
 
-fn number_for(registers: usize, access: usize, room: usize) -> usize {
+// The length of the answer.
+fn due_for(registers: usize, access: usize, room: usize) -> Result<usize, Refusal> {
     if room < 17 {
-        return 100;
+        return refused(1, 0);
     }
     if registers == 256 && access == 256 {
-        return 17;
+        return Ok(17);
     }
-    200
+    refused(2, 0)
 }
 
-// Each access byte, three times; then lengths on both sides of what is asked for.
-fn case(i: usize) -> bool {
-    if i < 768 {
-        return answered(i / 256, (i % 256) as u8);
-    }
-    lent_so(i % 2, 255 + i / 2 % 3, 255 + i / 6 % 3, 16 + i / 18 % 2)
-}
-
-// The cases from one on, so many.
-pub(crate) fn each(from: usize, n: usize) -> Tally {
+// Lengths on both sides of what is asked for, for a read and a finish.
+pub(crate) fn each_length() -> Tally {
     let mut t = none();
-    for i in from..n {
-        t = t.with(case(i));
+    for registers in 255..258 {
+        for access in 255..258 {
+            for room in 16..18 {
+                t = t
+                    .with(lent_so(Some(b"RP93R0100"), registers, access, room))
+                    .with(lent_so(None, registers, access, room));
+            }
+        }
     }
     t
 }

@@ -10,11 +10,11 @@ mod rules;
 use std::io;
 
 fn main(rt: HostRuntime) -> io::Result<()> {
-    packets::each(0).say(&rt, b"Railbus packets, published")?;
-    packets::each(1).say(&rt, b"Railbus packets, every prefix with each letter")?;
-    packets::each(2).say(&rt, b"Railbus packets, each character at each place")?;
-    packets::each(3).say(&rt, b"Railbus packets, each checksum")?;
-    device::each(0, 768).say(&rt, b"relay, each access byte")?;
-    device::each(768, 804).say(&rt, b"relay, lengths of what is lent")?;
+    packets::published().say(&rt, b"Railbus packets, published")?;
+    packets::letters().say(&rt, b"Railbus packets, every prefix with each letter")?;
+    packets::characters().say(&rt, b"Railbus packets, each character at each place")?;
+    packets::checksums().say(&rt, b"Railbus packets, each checksum")?;
+    device::each_access().say(&rt, b"relay, each access byte")?;
+    device::each_length().say(&rt, b"relay, lengths of what is lent")?;
     phases::four_calls().say(&rt, b"relay, four calls in every order")
 }

@@ -1,115 +1,83 @@
 // What reading a packet must give, by rules R1 to R4: worked out here a second time, with the checksum
-// bit by bit. It is a number: 1 where the checksum was examined, 0 where it was not, and for a refusal
-// 100 times its number and its place.
+// bit by bit.
 use lists::byte_at;
-use tally::part::{holds, rest};
+use refusal::{Refusal, refused};
+use tally::part::{rest, start};
 
-pub(crate) const EXAMINED: usize = 1;
-
-pub(crate) const UNCHECKED: usize = 0;
-
-pub(crate) fn refused(number: u8, place: usize) -> usize {
-    number as usize * 100 + place % 100
-}
-
-// How long a packet with this letter is, 0 where there is none.
-pub(crate) fn length_for(letter: u8) -> usize {
+// How long a packet with this letter is.
+pub(crate) fn length_for(letter: u8) -> Option<usize> {
     match letter {
-        b'R' | b'S' | b'N' => 9,
-        b'W' | b'K' | b'I' | b'n' => 17,
-        _ => 0,
+        b'R' | b'S' | b'N' => Some(9),
+        b'W' | b'K' | b'I' | b'n' => Some(17),
+        _ => None,
     }
 }
 
 fn is_digit(c: u8) -> bool {
-    match c {
-        b'0'..=b'9' | b'A'..=b'F' => true,
-        _ => false,
-    }
+    matches!(c, b'0'..=b'9' | b'A'..=b'F')
 }
 
 // The character of a digit.
 pub(crate) fn glyph(digit: u8) -> u8 {
-    byte_at(b"0123456789ABCDEF", digit as usize)
+    byte_at(b"0123456789ABCDEF", usize::from(digit))
 }
 
 // What a character makes of the checksum's register.
 fn bit_by_bit(before: u8, c: u8) -> u8 {
-    let mut register = before ^ c;
-    for _ in 0..8u32 {
+    (0..8u32).fold(before ^ c, |register, _| {
         let doubled = register % 128 * 2;
         if register < 128 {
-            register = doubled;
+            doubled
         } else {
-            register = doubled ^ 0x12;
+            doubled ^ 0x12
         }
-    }
-    register
+    })
 }
 
-// The register behind all characters but the last two.
-fn behind(text: &[u8]) -> u8 {
-    let mut register = 0;
-    for i in 2..text.len() {
-        register = bit_by_bit(register, text[i - 2]);
-    }
-    register
-}
-
-// Its checksum, with the top bit set.
+// The checksum of these characters, with the top bit set.
 fn checksum(text: &[u8]) -> [u8; 2] {
-    let sum = 128 + behind(text) / 2;
+    let register = text.iter().fold(0, |register, c| bit_by_bit(register, *c));
+    let sum = 128 + register / 2;
     [glyph(sum / 16), glyph(sum % 16)]
 }
 
-// The place of the first character that is no digit where one is due; the length where there is none.
-fn no_digit(text: &[u8]) -> usize {
-    for i in 2..text.len() {
-        if i != 4 {
-            if !is_digit(text[i]) {
-                return i;
-            }
-        }
-    }
-    text.len()
+// The place of the first character that is no digit where one is due.
+fn no_digit(text: &[u8]) -> Option<usize> {
+    text.iter()
+        .enumerate()
+        .position(|(i, c)| 2 <= i && i != 4 && !is_digit(*c))
 }
 
-// What is wrong with the mark, the letter and the length, or 0.
-fn head_wrong(text: &[u8]) -> usize {
+// The mark, the letter and the length.
+fn head(text: &[u8]) -> Result<(), Refusal> {
     if byte_at(text, 0) != b'R' {
-        return 1400;
+        return refused(14, 0);
     }
     if byte_at(text, 1) != b'P' {
-        return 1401;
+        return refused(14, 1);
     }
-    let length = length_for(byte_at(text, 4));
-    if length == 0 {
-        return 1504;
+    match length_for(byte_at(text, 4)) {
+        None => refused(15, 4),
+        Some(length) if length != text.len() => refused(13, 0),
+        Some(_) => Ok(()),
     }
-    if text.len() != length {
-        return 1300;
-    }
-    0
 }
 
-pub(crate) fn due(text: &[u8]) -> usize {
+// Whether the checksum is examined, or the refusal.
+pub(crate) fn due(text: &[u8]) -> Result<bool, Refusal> {
     if text.len() < 9 {
-        return 1300;
+        return refused(13, 0);
     }
-    let head = head_wrong(text);
-    if 0 < head {
-        return head;
-    }
-    let wrong = no_digit(text);
-    if wrong < text.len() {
-        return refused(26, wrong);
+    head(text)?;
+    if let Some(place) = no_digit(text) {
+        return refused(26, place);
     }
     let place = text.len() - 2;
     if text[place] < b'8' {
-        return UNCHECKED;
+        return Ok(false);
     }
-    if holds(rest(text, place), &checksum(text)) {
-        return EXAMINED;
+    if rest(text, place) == checksum(start(text, place)).as_slice() {
+        return Ok(true);
     }
     refused(16, place)
 }

@@ -1,8 +1,7 @@
 // Bytes as they arrive: a recording in cuts is held to what judging it at once gives.
-use crate::exchanges::{answered, due_of};
 use exchange::judge::judge;
 use listening::Listening;
-use tally::part::{FILL, holds, rest, start};
+use tally::part::{FILL, rest, start};
 use tally::{Tally, none};
 
 // How many bytes the recording below has.
@@ -19,13 +18,12 @@ fn closes_as_judged(state: Listening, run: &[u8]) -> bool {
     let mut c = [FILL; 24];
     let mut f = [FILL; 20];
     let mut s = [FILL; 20];
-    let j = judge(run, &mut c, &mut f, &mut s);
+    let judged = judge(run, &mut c, &mut f, &mut s);
     let mut command = [FILL; 24];
     let mut first = [FILL; 20];
     let mut second = [FILL; 20];
     let closed = closing::close(state, &mut command, &mut first, &mut second);
-    let answer = closed.answer;
-    answered(answer, due_of(j)) && holds(&command, &c) && holds(&first, &f) && holds(&second, &s)
+    closed.answer == judged && command == c && first == f && second == s
 }
 
 // A run in three: as far as a position, so many bytes more, and all others.
@@ -37,21 +35,14 @@ fn in_three(run: &[u8], at: usize, more: usize) -> bool {
     closes_as_judged(c.state, run)
 }
 
-// Every two cuts of which the first is at a position.
-fn cuts_at(run: &[u8], at: usize, from: Tally) -> Tally {
-    let mut t = from;
-    for more in 0..LENGTH + 1 {
-        t = t.with(in_three(run, at, more));
-    }
-    t
-}
-
 // The recording in every two cuts, one of them or both at its ends too.
 pub(crate) fn every_two_cuts() -> Tally {
     let run = recording();
     let mut t = none();
-    for at in 0..LENGTH + 1 {
-        t = cuts_at(&run, at, t);
+    for at in 0..=LENGTH {
+        for more in 0..=LENGTH {
+            t = t.with(in_three(&run, at, more));
+        }
     }
     t
 }
@@ -60,8 +51,8 @@ pub(crate) fn every_two_cuts() -> Tally {
 pub(crate) fn every_prefix() -> Tally {
     let run = recording();
     let mut t = none();
-    for n in 0..LENGTH + 1 {
-        t = t.with(in_three(start(&run, n), n / 2, n));
+    for n in 0..=LENGTH {
+        t = t.with(in_three(&run[..n], n / 2, n));
     }
     t
 }
@@ -71,8 +62,8 @@ pub(crate) fn one_by_one() -> Tally {
     let run = recording();
     let mut state = listening::listen();
     let mut t = none();
-    for i in 0..LENGTH {
-        let fed = feeding::feed(state, start(rest(&run, i), 1));
+    for byte in run {
+        let fed = feeding::feed(state, &[byte]);
         t = t.with(fed.used == 1);
         state = fed.state;
     }

@@ -2,7 +2,6 @@
 // One line for each group says how many were run and how many were right.
 #![tactic(auto)]
 
-mod cases;
 mod checks;
 mod escaping;
 mod exchanges;
@@ -49,11 +48,11 @@ fn say_recorded(rt: &impl Print) -> io::Result<()> {
 
 fn say_made(rt: &impl Print) -> io::Result<()> {
     exchanges::prefixes().say(rt, b"exchanges, every prefix")?;
-    exchanges::each_value(0, 13).say(rt, b"exchanges, each SRC")?;
-    exchanges::each_value(1, 13).say(rt, b"exchanges, each DST")?;
-    exchanges::each_value(4, 13).say(rt, b"exchanges, each LEN")?;
-    exchanges::each_value(7, 8).say(rt, b"exchanges, each byte after a command")?;
-    exchanges::each_value(11, 12).say(rt, b"exchanges, each byte after a reply")
+    exchanges::each_source().say(rt, b"exchanges, each SRC")?;
+    exchanges::each_destination().say(rt, b"exchanges, each DST")?;
+    exchanges::each_length().say(rt, b"exchanges, each LEN")?;
+    exchanges::each_command_answer().say(rt, b"exchanges, each byte after a command")?;
+    exchanges::each_reply_answer().say(rt, b"exchanges, each byte after a reply")
 }
 
 fn say_heard(rt: &impl Print) -> io::Result<()> {

@@ -4,15 +4,15 @@
 // A case is a line: bytes, a letter that says what is done with them, and what that must give, with `=`
 // and how many FF were passed over where there were any; or `!` with the number and place of the
 // refusal. Bytes are hexadecimal, and these numbers decimal. Each line finds what those before it left.
-use crate::lines::{read_field, wide};
+use crate::lines::{Base, cases, read_field};
 use answers::AnswerRead;
-use eventrequests::{EventRequest, EventRequestRead};
-use newevents::Added;
+use eventrequests::{EventRequest, read_event_request};
+use lists::{byte_at, put};
 use packets::EventsRead;
 use polls::Polled;
-use refusal::Refusal;
+use refusal::{Refusal, refused};
+use tally::Tally;
 use tally::part::{FILL, holds, lent, rest, start};
-use tally::{Tally, none};
 
 // There are two devices.
 const ROWS: usize = 2;
@@ -39,117 +39,79 @@ struct Bus {
     slots: [u8; SLOTS],
 }
 
-// What a call gave: its number, 0 where it is accepted, with its place, how many FF were passed over,
-// and bytes that say what it gave, so many.
-#[derive(Clone, Copy)]
+// What a call gave: how many FF were passed over, and how many bytes of the output say the rest.
+#[derive(Clone, Copy, PartialEq, Eq)]
 struct Given {
-    number: u8,
-    place: usize,
     skipped: usize,
     n: usize,
-    bytes: [u8; LONGEST],
 }
 
-// What a line gave and left, and where the next begins.
-#[derive(Clone, Copy)]
-struct Step {
-    bus: Bus,
-    right: bool,
-    next: usize,
-}
+const NOTHING: Given = Given { skipped: 0, n: 0 };
 
 // Two devices with these ids and nothing queued.
-fn fresh(first: u8, second: u8) -> Bus {
+fn fresh(ids: [u8; ROWS]) -> Bus {
     Bus {
         room: LONGEST,
         fill: 0,
-        ids: [first, second],
-        flags: [0u8; ROWS],
-        lasts: [0u8; ROWS],
-        counts: [0u8; ROWS],
-        slots: [0u8; SLOTS],
+        ids,
+        flags: [0; ROWS],
+        lasts: [0; ROWS],
+        counts: [0; ROWS],
+        slots: [0; SLOTS],
     }
 }
 
-fn gave(skipped: usize, n: usize, bytes: [u8; LONGEST]) -> Given {
+// The bytes that say what was given are put into the output.
+fn gave(skipped: usize, bytes: &[u8], out: &mut [u8]) -> Given {
+    put(bytes, out);
     Given {
-        number: 0,
-        place: 0,
         skipped,
-        n,
-        bytes,
-    }
-}
-
-fn nothing() -> Given {
-    gave(0, 0, [FILL; LONGEST])
-}
-
-fn refused(why: Refusal, bytes: [u8; LONGEST]) -> Given {
-    Given {
-        number: why.number,
-        place: why.place,
-        skipped: 0,
-        n: 0,
-        bytes,
+        n: bytes.len(),
     }
 }
 
 // ---- frames
 
-fn request_of(bytes: [u8; LONGEST]) -> EventRequest {
+fn request_of(bytes: &[u8]) -> EventRequest {
     EventRequest {
-        minimum: bytes[0],
-        most: bytes[1],
-        confirmed: bytes[2],
-        flag: bytes[3],
+        minimum: byte_at(bytes, 0),
+        most: byte_at(bytes, 1),
+        confirmed: byte_at(bytes, 2),
+        flag: byte_at(bytes, 3),
     }
 }
 
 // A request, as its four bytes.
-fn request_read(input: &[u8]) -> Given {
-    let mut bytes = [FILL; LONGEST];
-    let read = eventrequests::read_event_request(input);
-    match read {
-        EventRequestRead::Asked(request) => {
-            bytes[0] = request.minimum;
-            bytes[1] = request.most;
-            bytes[2] = request.confirmed;
-            bytes[3] = request.flag;
-            gave(0, 4, bytes)
-        }
-        EventRequestRead::Refused(why) => refused(why, bytes),
-    }
+fn request_read(input: &[u8], out: &mut [u8]) -> Result<Given, Refusal> {
+    let request = read_event_request(input)?;
+    let bytes = [
+        request.minimum,
+        request.most,
+        request.confirmed,
+        request.flag,
+    ];
+    Ok(gave(0, &bytes, out))
 }
 
 // A device found, as the four bytes of its serial and its address; the end of a scan, as nothing.
-fn answer_read(input: &[u8]) -> Given {
-    let mut bytes = [FILL; LONGEST];
-    let read = answers::read_answer(input);
-    match read {
+fn answer_read(input: &[u8], out: &mut [u8]) -> Result<Given, Refusal> {
+    match answers::read_answer(input)? {
         AnswerRead::Found {
             skipped,
             serial,
             address,
         } => {
-            bytes[0] = (serial / 0x1000000) as u8;
-            bytes[1] = (serial / 0x10000 % 256) as u8;
-            bytes[2] = (serial / 0x100 % 256) as u8;
-            bytes[3] = (serial % 256) as u8;
-            bytes[4] = address;
-            gave(skipped, 5, bytes)
+            let [a, b, c, d] = serial.to_be_bytes();
+            Ok(gave(skipped, &[a, b, c, d, address], out))
         }
-        AnswerRead::End { skipped } => gave(skipped, 0, bytes),
-        AnswerRead::Refused(why) => refused(why, bytes),
+        AnswerRead::End { skipped } => Ok(Given { skipped, n: 0 }),
     }
 }
 
 // A packet, as its sender, its flag, how many events are queued and listed, where the first stands,
 // and how many bytes they have; that nobody has events, as nothing.
-fn events_read(input: &[u8]) -> Given {
-    let mut bytes = [FILL; LONGEST];
-    let read = packets::read_events(input);
-    match read {
+fn events_read(input: &[u8], out: &mut [u8]) -> Result<Given, Refusal> {
+    match packets::read_events(input)? {
         EventsRead::Packet {
             skipped,
             sender,
@@ -159,195 +121,117 @@ fn events_read(input: &[u8]) -> Given {
             first,
             size,
         } => {
-            bytes[0] = sender;
-            bytes[1] = flag;
-            bytes[2] = queued;
-            bytes[3] = (listed % 256) as u8;
-            bytes[4] = (first % 256) as u8;
-            bytes[5] = size;
-            gave(skipped, 6, bytes)
+            let bytes = [
+                sender,
+                flag,
+                queued,
+                (listed % 256) as u8,
+                (first % 256) as u8,
+                size,
+            ];
+            Ok(gave(skipped, &bytes, out))
         }
-        EventsRead::Nothing { skipped } => gave(skipped, 0, bytes),
-        EventsRead::Refused(why) => refused(why, bytes),
+        EventsRead::Nothing { skipped } => Ok(Given { skipped, n: 0 }),
     }
 }
 
-fn first_of(list: &[u8; LONGEST], n: usize) -> &[u8] {
-    start(list, n)
-}
-
-// What the reader of answers (a) or that of events finds behind so many FF. No line of a script needs
-// more room than there is.
-fn read_behind(fill: usize, what: u8, bytes: &[u8]) -> Given {
+// What a reader finds behind so many FF. No line of a script needs more room than there is.
+fn read_behind<F: FnOnce(&[u8], &mut [u8]) -> Result<Given, Refusal>>(
+    fill: usize,
+    bytes: &[u8],
+    out: &mut [u8],
+    read: F,
+) -> Result<Given, Refusal>
+    requires { F.IsAlwaysCallable read }
+{
     let mut input = [answers::FILL; LONGEST];
-    if LONGEST < fill {
-        return nothing();
-    }
-    if LONGEST - fill < bytes.len() {
-        return nothing();
-    }
-    lists::put(bytes, &mut input[fill..]);
-    let run = first_of(&input, fill + bytes.len());
-    if what == b'a' {
-        return answer_read(run);
-    }
-    events_read(run)
+    let fill = fill.min(LONGEST);
+    put(bytes, &mut input[fill..]);
+    read(start(&input, fill.saturating_add(bytes.len())), out)
 }
 
 // ---- devices
 
-// The devices that a line left, and what it gave.
-#[derive(Clone, Copy)]
-struct Did {
-    bus: Bus,
-    given: Given,
-}
-
-fn left(bus: Bus) -> Did {
-    Did {
-        bus,
-        given: nothing(),
-    }
-}
-
-// A row's flag, last packet and number of events as they stand in the line.
-fn with_stored(bus: Bus, bytes: [u8; LONGEST]) -> Bus {
-    let mut next = bus;
-    let row = wide(bytes[0]);
+// A row's flag, last packet and number of events, as they stand in the line.
+fn store(bus: &mut Bus, bytes: &[u8]) {
+    let row = usize::from(byte_at(bytes, 0));
     if row < ROWS {
-        next.flags[row] = bytes[1];
-        next.lasts[row] = bytes[2];
-        next.counts[row] = bytes[3];
+        bus.flags[row] = byte_at(bytes, 1);
+        bus.lasts[row] = byte_at(bytes, 2);
+        bus.counts[row] = byte_at(bytes, 3);
     }
-    next
-}
-
-fn with_room(bus: Bus, room: usize) -> Bus {
-    let mut next = bus;
-    next.room = room;
-    next
-}
-
-fn with_fill(bus: Bus, fill: usize) -> Bus {
-    let mut next = bus;
-    next.fill = fill;
-    next
 }
 
 // The same three numbers, given.
-fn stored(bus: Bus, row: usize) -> Given {
-    let mut bytes = [FILL; LONGEST];
+fn stored(bus: &Bus, row: usize, out: &mut [u8]) -> Given {
     if row < ROWS {
-        bytes[0] = bus.flags[row];
-        bytes[1] = bus.lasts[row];
-        bytes[2] = bus.counts[row];
+        gave(0, &[bus.flags[row], bus.lasts[row], bus.counts[row]], out)
+    } else {
+        NOTHING
     }
-    gave(0, 3, bytes)
 }
 
 // The device's id, type and identifier stand before the data.
-fn add(bus: Bus, urgent: bool, bytes: [u8; LONGEST], n: usize) -> Did {
-    let ids = bus.ids;
-    let flags = bus.flags;
-    let lasts = bus.lasts;
-    let mut counts = bus.counts;
-    let mut slots = bus.slots;
-    let added = newevents::add_event(
+fn add(bus: &mut Bus, urgent: bool, bytes: &[u8]) -> Result<Given, Refusal> {
+    newevents::add_event(
         &SERIALS,
-        &ids,
+        &bus.ids,
         &MARKS,
-        &flags,
-        &lasts,
-        &mut counts,
-        &mut slots,
-        bytes[0],
+        &bus.flags,
+        &bus.lasts,
+        &mut bus.counts,
+        &mut bus.slots,
+        byte_at(bytes, 0),
         urgent,
-        bytes[1],
-        pair(bytes[2], bytes[3]),
-        rest(start(&bytes, n), 4),
-    );
-    let mut next = bus;
-    next.counts = counts;
-    next.slots = slots;
-    Did {
-        bus: next,
-        given: given_by_add(added),
-    }
-}
-
-fn pair(high: u8, low: u8) -> u16 {
-    high as u16 * 256 + low as u16
-}
-
-fn given_by_add(added: Added) -> Given {
-    match added {
-        Added::Done => nothing(),
-        Added::Refused(why) => refused(why, [FILL; LONGEST]),
-    }
-}
-
-fn poll(bus: Bus, read: EventRequestRead) -> Did {
-    let mut answer = [FILL; LONGEST];
-    let ids = bus.ids;
-    let mut flags = bus.flags;
-    let mut lasts = bus.lasts;
-    let mut counts = bus.counts;
-    let mut slots = bus.slots;
-    let polled = polls::ask(
-        read,
-        &SERIALS,
-        &ids,
-        &MARKS,
-        &mut flags,
-        &mut lasts,
-        &mut counts,
-        &mut slots,
-        lent(&mut answer, bus.room),
-    );
-    let next = Bus {
-        room: bus.room,
-        fill: bus.fill,
-        ids,
-        flags,
-        lasts,
-        counts,
-        slots,
-    };
-    Did {
-        bus: next,
-        given: given_by_poll(polled, answer),
-    }
+        byte_at(bytes, 1),
+        u16::from_be_bytes([byte_at(bytes, 2), byte_at(bytes, 3)]),
+        rest(bytes, 4),
+    )?;
+    Ok(NOTHING)
 }
 
 // The answer's bytes and its FF; silence has none.
-fn given_by_poll(polled: Polled, answer: [u8; LONGEST]) -> Given {
+fn poll(
+    bus: &mut Bus,
+    read: Result<EventRequest, Refusal>,
+    answer: &mut [u8],
+) -> Result<Given, Refusal> {
+    let polled = polls::ask(
+        read,
+        &SERIALS,
+        &bus.ids,
+        &MARKS,
+        &mut bus.flags,
+        &mut bus.lasts,
+        &mut bus.counts,
+        &mut bus.slots,
+        lent(answer, bus.room),
+    )?;
     match polled {
         Polled::Packet {
             skipped,
             length,
             ..
-        } => answered(skipped, length, answer),
-        Polled::Nothing {
+        }
+        | Polled::Nothing {
             skipped,
             length,
             ..
-        } => answered(skipped, length, answer),
-        Polled::Silent => gave(0, 0, answer),
-        Polled::Refused(why) => refused(why, answer),
+        } => { read_back(skipped, start(answer, length)) }
+        Polled::Silent => Ok(NOTHING),
     }
 }
 
-// An answer has to be read back with as many FF. One that is not is given as it is read, which no line
-// of a poll expects.
-fn answered(skipped: usize, length: usize, answer: [u8; LONGEST]) -> Given {
-    let back = events_read(start(&answer, length));
-    if back.number != 0 {
-        return back;
-    }
-    if back.skipped != skipped {
-        return back;
-    }
-    gave(skipped, length, answer)
+// An answer has to be read back with as many FF. One that is not is given as no bytes, which no line
+// expects of an output that was written to.
+fn read_back(skipped: usize, answer: &[u8]) -> Result<Given, Refusal> {
+    let back = events_read(answer, &mut [0; 6])?;
+    let n = if back.skipped == skipped {
+        answer.len()
+    } else {
+        0
+    };
+    Ok(Given { skipped, n })
 }
 
 // ---- lines
@@ -356,84 +240,45 @@ fn answered(skipped: usize, length: usize, answer: [u8; LONGEST]) -> Given {
 // back for a poll (e), the number of FF before these two set (f); two devices with these ids put on the
 // bus (d), a row's numbers set (s) and shown (q), the room of answers set (m); a normal (n) or an urgent
 // (u) event added; the devices polled (p), or offered a raw frame (o).
-fn done(bus: Bus, what: u8, bytes: [u8; LONGEST], n: usize) -> Did {
+fn done(bus: &mut Bus, what: u8, bytes: &[u8], out: &mut [u8]) -> Result<Given, Refusal> {
+    let first = byte_at(bytes, 0);
     match what {
-        b'r' => Did {
-            bus,
-            given: request_read(start(&bytes, n)),
-        },
-        b'a' | b'e' => Did {
-            bus,
-            given: read_behind(bus.fill, what, start(&bytes, n)),
-        },
-        b'f' => left(with_fill(bus, wide(bytes[0]))),
-        b'd' => left(fresh(bytes[0], bytes[1])),
-        b's' => left(with_stored(bus, bytes)),
-        b'q' => Did {
-            bus,
-            given: stored(bus, wide(bytes[0])),
-        },
-        b'm' => left(with_room(bus, wide(bytes[0]))),
-        b'n' => add(bus, false, bytes, n),
-        b'u' => add(bus, true, bytes, n),
-        b'p' => poll(bus, EventRequestRead::Asked(request_of(bytes))),
-        _ => poll(bus, eventrequests::read_event_request(start(&bytes, n))),
+        b'r' => return request_read(bytes, out),
+        b'a' => return read_behind(bus.fill, bytes, out, answer_read),
+        b'e' => return read_behind(bus.fill, bytes, out, events_read),
+        b'f' => bus.fill = usize::from(first),
+        b'd' => *bus = fresh([first, byte_at(bytes, 1)]),
+        b's' => store(bus, bytes),
+        b'q' => return Ok(stored(bus, usize::from(first), out)),
+        b'm' => bus.room = usize::from(first),
+        b'n' => return add(bus, false, bytes),
+        b'u' => return add(bus, true, bytes),
+        b'p' => return poll(bus, Ok(request_of(bytes)), out),
+        _ => return poll(bus, read_event_request(bytes), out),
     }
+    Ok(NOTHING)
 }
 
-// Whether a call passed over so many FF, gave just these bytes, and left those behind them.
-fn gave_just(given: Given, due: &[u8], skipped: usize) -> bool {
-    let bytes = given.bytes;
-    given.number == 0 && given.skipped == skipped && given.n == due.len() && holds(&bytes, due)
-}
-
-// Whether a call was refused so, and wrote nothing.
-fn refused_as(given: Given, number: u8, place: usize) -> bool {
-    let bytes = given.bytes;
-    given.number == number && given.place == place && holds(&bytes, b"")
-}
-
-// Whether a call gave what is due. The numbers are those behind the mark, 0 where a line has none.
-fn as_due(given: Given, due: &[u8], mark: u8, numbers: [u8; 2]) -> bool {
-    if mark == b'!' {
-        return refused_as(given, numbers[0], wide(numbers[1]));
-    }
-    gave_just(given, due, wide(numbers[0]))
-}
-
-fn line(bus: Bus, text: &[u8], at: usize) -> Step {
-    let mut bytes = [0u8; LONGEST];
-    let mut due = [0u8; LONGEST];
-    let mut numbers = [0u8; 2];
-    let i = read_field(text, at, true, &mut bytes);
-    let d = read_field(text, i.next, true, &mut due);
-    let mark = d.mark;
-    let end = match mark {
-        b'!' | b'=' => read_field(text, d.next, false, &mut numbers),
-        _ => d,
+// Whether a line gives what is due, in number and bytes, and leaves those behind them. The numbers are
+// those behind the mark, 0 where a line has none.
+fn line(bus: &mut Bus, line: &[u8]) -> bool {
+    let input = read_field::<LONGEST>(line, Base::Hexadecimal);
+    let due = read_field::<LONGEST>(input.rest, Base::Hexadecimal);
+    let [number, place] = read_field::<2>(due.rest, Base::Decimal).numbers;
+    let answer = if due.mark == b'!' {
+        refused(number, usize::from(place))
+    } else {
+        Ok(Given {
+            skipped: usize::from(number),
+            n: due.n,
+        })
     };
-    let did = done(bus, i.mark, bytes, i.n);
-    let left = did.bus;
-    Step {
-        bus: left,
-        right: as_due(did.given, start(&due, d.n), mark, numbers),
-        next: end.next,
-    }
+    let mut out = [FILL; LONGEST];
+    done(bus, input.mark, input.all(), &mut out) == answer && holds(&out, due.all())
 }
 
-// Every line of a script. There are no more lines than bytes.
+// Every line of a script.
 pub(crate) fn played(text: &[u8]) -> Tally {
-    let mut t = none();
-    let mut bus = fresh(1, 2);
-    let mut at = 0;
-    for _ in 0..text.len() {
-        if text.len() <= at {
-            return t;
-        }
-        let s = line(bus, text, at);
-        t = t.with(s.right);
-        bus = s.bus;
-        at = s.next;
-    }
-    t
+    let mut bus = fresh([1, 2]);
+    cases(text, |text| line(&mut bus, text))
 }

@@ -1,5 +1,6 @@
 -- Laws for calls that write: from the length that a call worked out to the promise `Wrote`.
 -- Assumes nothing.
+use Rattle.std.specs.Prelude.{Result, Ok, Err}
 use mathlib.Core.Path.{◌≡◌, refl, sym, ap, ◌∙◌, subst}
 use mathlib.Core.List.{List}
 use Prim.Native.Nat.{ℕ, ◌≤◌, ◌<◌}
@@ -14,35 +15,33 @@ use Rattle.lists.specs.Starting.{starting}
 use Rattle.refusal.specs.Number.{output_short, at_place}
 use Rattle.refusal.specs.Output.{Output, bytes, refused, content, fitting, written, left, Wrote}
 use Rattle.refusal.specs.declared.Refusal.{Refusal}
-use Rattle.refusal.specs.declared.Written.{Written}
-use Rattle.refusal.specs.declared.Written.TheVariants.{Length, Refused}
 
 -- an output whose answer is a length is bytes of that length
-pub accepted : (o : Output) (n : ℕ) → written o ≡ Length n → o ≡ bytes (content o)
+pub accepted : (o : Output) (n : ℕ) → written o ≡ Ok n → o ≡ bytes (content o)
 accepted (bytes bs) n e = refl
 accepted (refused why) n e = let z : ◌≡◌ {A = ℕ} 0 1 = cc in let f : ⊥ = omega arith in absurd f
 
-pub accepted_length : (o : Output) (n : ℕ) → written o ≡ Length n → length (content o) ≡ n
+pub accepted_length : (o : Output) (n : ℕ) → written o ≡ Ok n → length (content o) ≡ n
 accepted_length (bytes bs) n e = cc
 accepted_length (refused why) n e = let z : ◌≡◌ {A = ℕ} 0 1 = cc in let f : ⊥ = omega arith in absurd f
 
 module _ (o : Output) (room : ℕ) (old : List ℕ) where
   -- refused before its room was looked at
-  pub wrote_refused : (r : Written) (why : Refusal) → r ≡ written o → r ≡ Refused why → Wrote id (fitting room o) r old old
+  pub wrote_refused : (r : Result ℕ Refusal) (why : Refusal) → r ≡ written o → r ≡ Err why → Wrote id (fitting room o) r old old
   wrote_refused r why e refusal = by_cases o e
     where
       by_cases : (o : Output) → r ≡ written o → Wrote id (fitting room o) r old old
       by_cases (bytes bs) e = let z : ◌≡◌ {A = ℕ} 0 1 = cc in let f : ⊥ = omega arith in absurd f
       by_cases (refused w) e = record { result = e; output = refl }
 
-  module _ (n : ℕ) (e : written o ≡ Length n) where
+  module _ (n : ℕ) (e : written o ≡ Ok n) where
     fits_is : (short : room < n) → fitting room o ≡ refused (at_place output_short 0)
     fits_is short =
         ap (fitting room) (accepted o n e)
         ∙ ap (λ b. pick b (bytes (content o)) (refused (at_place output_short 0))) (lt-leb (length (content o)) room (omega (arith, accepted_length o n e)))
 
     -- number 1
-    pub wrote_short : (r : Written) → room < n → r ≡ Refused (at_place output_short 0) → Wrote id (fitting room o) r old old
+    pub wrote_short : (r : Result ℕ Refusal) → room < n → r ≡ Err (at_place output_short 0) → Wrote id (fitting room o) r old old
     wrote_short r short is_one =
         record {
           result = is_one ∙ ap written (sym (fits_is short));
@@ -50,7 +49,7 @@ module _ (o : Output) (room : ℕ) (old : List ℕ) where
         }
 
     -- all of it
-    pub wrote_all : (new : List ℕ) → n ≤ room → new ≡ starting (content o) old → Wrote id (fitting room o) (Length n) old new
+    pub wrote_all : (new : List ℕ) → n ≤ room → new ≡ starting (content o) old → Wrote id (fitting room o) (Ok n) old new
     wrote_all new enough is_new =
         let fits : fitting room o ≡ o =
         ap (fitting room) (accepted o n e)
@@ -62,7 +61,7 @@ module _ (o : Output) (room : ℕ) (old : List ℕ) where
         }
 
 -- refused outright
-pub wrote_none : (o : Output) (room : ℕ) (old : List ℕ) (why : Refusal) (r : Written) → o ≡ refused why → r ≡ Refused why → Wrote id (fitting room o) r old old
+pub wrote_none : (o : Output) (room : ℕ) (old : List ℕ) (why : Refusal) (r : Result ℕ Refusal) → o ≡ refused why → r ≡ Err why → Wrote id (fitting room o) r old old
 wrote_none o room old why r e is =
     record {
       result = is ∙ ap (λ (x : Output). written (fitting room x)) (sym e);
@@ -70,11 +69,11 @@ wrote_none o room old why r e is =
     }
 
 -- the same output under another name
-pub wrote_same : (o o' : Output) (room : ℕ) (old new : List ℕ) (r : Written) → o ≡ o' → Wrote id (fitting room o) r old new → Wrote id (fitting room o') r old new
+pub wrote_same : (o o' : Output) (room : ℕ) (old new : List ℕ) (r : Result ℕ Refusal) → o ≡ o' → Wrote id (fitting room o) r old new → Wrote id (fitting room o') r old new
 wrote_same o o' room old new r e w = subst (λ (x : Output). Wrote id (fitting room x) r old new) e w
 
 -- the same promise with its result shown otherwise
-pub wrote_shown : {A : Type 0} (shows : Written → A) (out : Output) (w : Written) (r : A) (old new : List ℕ) → r ≡ shows w → Wrote id out w old new → Wrote shows out r old new
+pub wrote_shown : {A : Type 0} (shows : Result ℕ Refusal → A) (out : Output) (w : Result ℕ Refusal) (r : A) (old new : List ℕ) → r ≡ shows w → Wrote id out w old new → Wrote shows out r old new
 wrote_shown shows out w r old new e wrote = record { result = e ∙ ap shows wrote.result; output = wrote.output }
 
 -- bytes that come out of a room came in, and fit it

@@ -1,10 +1,8 @@
 -- An answer as plain numbers. Beside each enum that a call answers stands a definition of its numbers, case by case: here
 -- that of `Written`, and in the crates above that of each enum of theirs.
 -- Assumes nothing.
-use Rattle.std.specs.Prelude.{ℕ, List, [], ◌∷◌, get_or}
+use Rattle.std.specs.Prelude.{ℕ, List, [], ◌∷◌, get_or, Result, Ok, Err}
 use Rattle.refusal.specs.declared.Refusal.{Refusal}
-use Rattle.refusal.specs.declared.Written.{Written}
-use Rattle.refusal.specs.declared.Written.TheVariants.{Length, Refused}
 
 -- rule N1's number, 0 where nothing is refused, its place, and the values of what was accepted, in their order
 pub record Numbers : Type 0 where
@@ -23,6 +21,6 @@ abbrev pub value : Numbers → ℕ → ℕ
 value n i = get_or n.values i 0
 
 -- a writer: how many bytes it wrote
-abbrev pub written_numbers : Written → Numbers
-written_numbers (Length n) = accepted_with (n ∷ [])
-written_numbers (Refused why) = refused_with why
+abbrev pub written_numbers : Result ℕ Refusal → Numbers
+written_numbers (Ok n) = accepted_with (n ∷ [])
+written_numbers (Err why) = refused_with why

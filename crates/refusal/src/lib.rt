@@ -4,6 +4,9 @@
 // takes its numbers from here, so a new number is a new line here and changes no `match`.
 #![tactic(auto)]
 
+ghost use Rattle.std.specs.Prelude.{◌≡◌, Err};
+ghost use Rattle.refusal.specs.Number.{at_place};
+
 // What was lent for output has too little room.
 pub const OUTPUT_SHORT: u8 = 1;
 // The device table is not valid.
@@ -45,16 +48,17 @@ pub const FILL_OVER: u8 = 19;
 // No hex digit stands where one is due.
 pub const DIGIT_WRONG: u8 = 26;
 
-// A refusal: the number, and the offset of the raw byte named, 0 where none is named.
-#[derive(Clone, Copy)]
+// A refusal: the number, and the offset of the raw byte named, 0 where none is named. The number is a
+// byte and no enum, since `devices::ask` and `polls::ask` hand on any number that a caller's refusal has.
+#[derive(Clone, Copy, PartialEq, Eq)]
 pub struct Refusal {
     pub place: usize,
     pub number: u8,
 }
 
-// What a writer answers: how many bytes it wrote at the start of the lent output, or the refusal.
-#[derive(Clone, Copy)]
-pub enum Written {
-    Length(usize),
-    Refused(Refusal),
+// What a call answers that refuses, whatever it gives where it accepts.
+pub fn refused<T>(number: u8, place: usize) -> Result<T, Refusal>
+    ensures { result ≡ Err (at_place number place) }
+{
+    Err(Refusal { number, place })
 }

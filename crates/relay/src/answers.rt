@@ -2,7 +2,7 @@
 ghost use Rattle.std.specs.Prelude.{◌≡◌, ◌||◌, eqb};
 ghost use Rattle.relay.specs.Answers.{received, special, responding, copy, behind_access, on_write, on_sync, on_message};
 
-use crate::{Remembered, Response, Said};
+use crate::{Remembered, Response};
 use railbus::{Long, Message, Short};
 
 // What an access byte says of its register; 3 is both to be read and to be written.
@@ -28,20 +28,17 @@ const BUSY: u32 = 0x08;
 const SYNCED: u32 = 0x10;
 
 // An n with this reason.
-fn special(reason: u32) -> Said
+fn special(reason: u32) -> Option<Message>
     ensures { result ≡ special reason }
 {
-    Said::Says(Message::With(Long::Special, reason))
+    Some(Message::With(Long::Special, reason))
 }
 
 // Whether a write is a copy of another: the same register and the same data.
 fn copy(register: u8, value: u32, register1: u8, value1: u32) -> bool
     ensures { result ≡ copy register value register1 value1 }
 {
-    if register == register1 {
-        return value == value1;
-    }
-    false
+    register == register1 && value == value1
 }
 
 // A write that is taken: from now on it runs.
@@ -91,7 +88,7 @@ fn behind_access(access: u8, may: bool, write: Remembered, response: Response) -
 {
     if access == ABSENT {
         return Response {
-            said: Said::Says(Message::Bare(Short::NotAcknowledge)),
+            said: Some(Message::Bare(Short::NotAcknowledge)),
             write,
         };
     }
@@ -108,10 +105,7 @@ fn behind_access(access: u8, may: bool, write: Remembered, response: Response) -
 fn either(access: u8, one: u8, other: u8) -> bool
     ensures { result ≡ (eqb access one || eqb access other) }
 {
-    if access == one {
-        return true;
-    }
-    access == other
+    access == one || access == other
 }
 
 // Sync: a finished write is forgotten, a running one is not.
@@ -145,26 +139,20 @@ pub(crate) fn on_message(
         Message::Bare(short) => match short {
             Short::ReadRequest => {
                 let response = Response {
-                    said: Said::Says(Message::With(Long::ReadAcknowledge, value)),
+                    said: Some(Message::With(Long::ReadAcknowledge, value)),
                     write,
                 };
                 behind_access(access, either(access, READ, BOTH), write, response)
             }
             Short::Sync => on_sync(write),
-            Short::NotAcknowledge => Response {
-                said: Said::Nothing,
-                write,
-            },
+            Short::NotAcknowledge => Response { said: None, write },
         },
         Message::With(long, new) => match long {
             Long::WriteRequest => {
                 let response = on_write(register, new, write);
                 behind_access(access, either(access, WRITE, BOTH), write, response)
             }
-            _ => Response {
-                said: Said::Nothing,
-                write,
-            },
+            _ => Response { said: None, write },
         },
     }
 }

@@ -8,16 +8,15 @@
 mod answers;
 
 ghost use Rattle.std.specs.Prelude.{◌≡◌, ◌≤◌, length};
-ghost use Rattle.lists.specs.Tests.{all};
+ghost use Rattle.std.specs.List.{list_all};
 ghost use Rattle.lists.specs.Starting.{starting};
 ghost use Rattle.relay.specs.Device.{register_count, access_right, valid_relay};
 ghost use Rattle.relay.specs.Answers.{on_packet};
 ghost use Rattle.relay.specs.Calls.{relay_room, said_text, reply_of, Relays, relayed, responded, offer_call, finish_call};
 
 use answers::on_message;
-use guard::Guard;
-use railbus::{Long, Message, Packet, PacketRead, read_packet, write_packet};
-use refusal::{Refusal, Written};
+use railbus::{Long, Message, Packet, read_packet, write_packet};
+use refusal::Refusal;
 
 // A device has so many registers.
 pub const REGISTERS: usize = 256;
@@ -33,93 +32,69 @@ pub enum Remembered {
     Finished(u8, u32),
 }
 
-// What a device says.
-#[derive(Clone, Copy)]
-pub enum Said {
-    Nothing,
-    Says(Message),
-}
-
-// .. and what it remembers from then on.
+// What a device says, if anything, and what it remembers from then on.
 #[derive(Clone, Copy)]
 pub struct Response {
-    pub said: Said,
+    pub said: Option<Message>,
     pub write: Remembered,
 }
 
-// What a call answers: how many characters the answer at the start of the buffer has, that there is
-// none, or the refusal.
-#[derive(Clone, Copy)]
-pub enum Reply {
-    Answer(usize),
-    NoAnswer,
-    Refused(Refusal),
-}
-
-// .. and the write that the device remembers from then on.
+// What a call answers: how many characters the answer at the start of the buffer has, none where there
+// is no answer, or the refusal; and the write that the device remembers from then on.
 #[derive(Clone, Copy)]
 pub struct Relayed {
-    pub reply: Reply,
+    pub reply: Result<Option<usize>, Refusal>,
     pub write: Remembered,
 }
 
 // Whether each access byte is one of the four. The loop has no way out before its end, so that a
 // processor takes several bytes at a time.
 fn access_right(access: &[u8]) -> bool
-    ensures { result ≡ all access_right access.now }
+    ensures { result ≡ list_all access_right access.now }
 {
     let mut right = true;
-    let mut i = 0;
-    while i < access.len() {
-        if access[i] > 3 {
-            right = false;
-        }
-        i += 1;
+    for byte in access {
+        right &= *byte <= 3;
     }
     right
 }
 
 // Whether registers and access bytes are those of a device: what number 2 asks.
+#[tactic(auto, using(lists::proofs::Std::all_is), unfolding(crate::specs::Device::valid_relay))]
 pub fn valid_relay(registers: &[u32], access: &[u8]) -> bool
     ensures { result ≡ valid_relay (record { registers = registers.now; access = access.now }) }
 {
-    if registers.len() != REGISTERS {
-        return false;
-    }
-    if access.len() != REGISTERS {
-        return false;
-    }
-    access_right(access)
+    registers.len() == REGISTERS && access.len() == REGISTERS && access_right(access)
 }
 
 // Writes what is said, as a packet from the device with this address on this register.
-fn say(address: u8, register: u8, said: Said, answer: &mut [u8]) -> Reply
+fn say(
+    address: u8,
+    register: u8,
+    said: Option<Message>,
+    answer: &mut [u8],
+) -> Result<Option<usize>, Refusal>
     requires { relay_room ≤ length answer.old }
     ensures { (result ≡ reply_of address register said) × (answer.new ≡ starting (said_text address register said) answer.old) }
 {
-    match said {
-        Said::Nothing => Reply::NoAnswer,
-        Said::Says(message) => {
-            let packet = Packet {
-                address,
-                register,
-                message,
-            };
-            let written = write_packet(packet, answer);
-            match written {
-                Written::Length(size) => Reply::Answer(size),
-                Written::Refused(why) => Reply::Refused(why),
-            }
-        }
-    }
+    let Some(message) = said else {
+        return Ok(None);
+    };
+    let packet = Packet {
+        address,
+        register,
+        message,
+    };
+    let size = write_packet(packet, answer)?;
+    Ok(Some(size))
 }
 
 // A refusal. What the device remembers stays.
 fn refused(why: Refusal, write: Remembered) -> Relayed
-    ensures { result ≡ relayed (Reply.Refused why) write }
+    ensures { result ≡ relayed (Err why) write }
 {
     Relayed {
-        reply: Reply::Refused(why),
+        reply: Err(why),
         write,
     }
 }
@@ -138,7 +113,7 @@ fn respond(
 {
     if packet.address != address {
         return Relayed {
-            reply: Reply::NoAnswer,
+            reply: Ok(None),
             write,
         };
     }
@@ -166,18 +141,12 @@ pub fn offer(
     ensures { Relays relayed (offer_call address input.now answer.old (record { registers = registers.now; access = access.now }) write) result answer.new registers.now }
 {
     let ok = valid_relay(registers, access);
-    let admitted = guard::admit(RELAY_ROOM, answer.len(), ok);
-    match admitted {
-        Guard::Refused(why) => refused(why, write),
-        Guard::Passed => {
-            let read = read_packet(input);
-            match read {
-                PacketRead::Refused(why) => refused(why, write),
-                PacketRead::Found(packet, _) => respond(
-                    address, packet, registers, access, write, answer,
-                ),
-            }
-        }
+    if let Err(why) = guard::admit(RELAY_ROOM, answer.len(), ok) {
+        return refused(why, write);
+    }
+    match read_packet(input) {
+        Err(why) => refused(why, write),
+        Ok((packet, _)) => respond(address, packet, registers, access, write, answer),
     }
 }
 
@@ -192,22 +161,21 @@ pub fn finish(
     ensures { Relays relayed (finish_call address answer.old (record { registers = registers.old; access = access.now }) write) result answer.new registers.new }
 {
     let ok = valid_relay(registers, access);
-    let admitted = guard::admit(RELAY_ROOM, answer.len(), ok);
-    match admitted {
-        Guard::Refused(why) => refused(why, write),
-        Guard::Passed => match write {
-            Remembered::Running(register, value) => {
-                registers[register as usize] = value;
-                let said = Said::Says(Message::With(Long::WriteAcknowledge, value));
-                Relayed {
-                    reply: say(address, register, said, answer),
-                    write: Remembered::Finished(register, value),
-                }
+    if let Err(why) = guard::admit(RELAY_ROOM, answer.len(), ok) {
+        return refused(why, write);
+    }
+    match write {
+        Remembered::Running(register, value) => {
+            registers[register as usize] = value;
+            let said = Some(Message::With(Long::WriteAcknowledge, value));
+            Relayed {
+                reply: say(address, register, said, answer),
+                write: Remembered::Finished(register, value),
             }
-            _ => Relayed {
-                reply: Reply::NoAnswer,
-                write,
-            },
+        }
+        _ => Relayed {
+            reply: Ok(None),
+            write,
         },
     }
 }

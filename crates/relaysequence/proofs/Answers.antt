@@ -1,6 +1,7 @@
 -- What a device says to a message and to a finish, beside the write that it remembers: which write was received or carried out is
 -- heard, and nothing else is.
 -- Assumes nothing.
+use Rattle.std.specs.Prelude.{Option, Ok, Some, None}
 use mathlib.Core.Path.{◌≡◌, refl, sym, ap, ◌∙◌}
 use mathlib.Core.Bool.{Bool, true, false, ◌&&◌}
 use mathlib.Core.List.{List, [], ◌++◌, append-nil}
@@ -16,13 +17,10 @@ use Rattle.railbus.specs.declared.Long.TheVariants.{WriteRequest, ReadAcknowledg
 use Rattle.railbus.specs.declared.Message.{Message}
 use Rattle.railbus.specs.declared.Message.TheVariants.{Bare, With}
 use Rattle.railbus.specs.declared.Packet.{Packet}
-use Rattle.railbus.specs.declared.PacketRead.TheVariants.{Found}
 use Rattle.relay.specs.Device.{Relay, is_absent, may_read, may_write, value_at, access_at}
 use Rattle.relay.specs.Answers.{received, retransmission, done_before, forbidden, busy, special, responding, copy, on_write, on_sync, behind_access, on_message, on_packet, Finish, on_finish}
 use Rattle.relay.specs.declared.Remembered.{Remembered}
 use Rattle.relay.specs.declared.Remembered.TheVariants.{Idle, Running, Finished}
-use Rattle.relay.specs.declared.Said.{Said}
-use Rattle.relay.specs.declared.Said.TheVariants.{Nothing, Says}
 use Rattle.relay.specs.declared.Response.{Response}
 use Rattle.relaysequence.specs.Heard.{Write, received_by, carried_by, stored, now_finished, asks_sync, tell_offer, running_in}
 use Rattle.relaysequence.specs.Sequence.{WriteFits, answer}
@@ -32,12 +30,12 @@ use Rattle.relaysequence.proofs.Registers.{set_below}
 -- ---- to a message
 
 -- the write that a message had taken, by what was said
-abbrev pub taken : ℕ → ℕ → Message → Said → List Write
-taken address register message said = received_by (Found (answer address register message) true) (hearing address register said)
+abbrev pub taken : ℕ → ℕ → Message → Option Message → List Write
+taken address register message said = received_by (Ok (answer address register message, true)) (hearing address register said)
 
 -- the write to remember, as what was said tells, where the message had these taken
-abbrev telling_of : ℕ → ℕ → Message → Said → List Write → Remembered → Remembered
-telling_of address register message said writes write = tell_offer (Found (answer address register message) true) (hearing address register said) writes write
+abbrev telling_of : ℕ → ℕ → Message → Option Message → List Write → Remembered → Remembered
+telling_of address register message said writes write = tell_offer (Ok (answer address register message, true)) (hearing address register said) writes write
 
 pub record Responds (address register : ℕ) (message : Message) (write : Remembered) (r : Response) : Type 0 where
   pub right : SaidRight r.said
@@ -52,7 +50,7 @@ unsynced false write = refl
 
 module _ (address register : ℕ) where
   -- an answer that neither takes a write nor forgets one
-  unmoved : (message : Message) (write : Remembered) (said : Said) → SaidRight said → WriteFits write
+  unmoved : (message : Message) (write : Remembered) (said : Option Message) → SaidRight said → WriteFits write
       → taken address register message said ≡ [] → telling_of address register message said [] write ≡ write → Responds address register message write (responding said write)
   unmoved message write said right fits none same =
       record {
@@ -67,13 +65,13 @@ module _ (address register : ℕ) where
     behind : (access : ℕ) (may : Bool) (message : Message) (r : Response) → Responds address register message write r
         → Responds address register message write (behind_access access may write r)
     behind access may message r passed =
-        pick_cases (Responds address register message write) (is_absent access) (responding (Says (Bare NotAcknowledge)) write) (pick may r (responding (special forbidden) write))
-        (λ absent. unmoved message write (Says (Bare NotAcknowledge)) tt fits refl (unsynced (asks_sync message) write))
+        pick_cases (Responds address register message write) (is_absent access) (responding (Some (Bare NotAcknowledge)) write) (pick may r (responding (special forbidden) write))
+        (λ absent. unmoved message write (Some (Bare NotAcknowledge)) tt fits refl (unsynced (asks_sync message) write))
         (λ there. pick_cases (Responds address register message write) may r (responding (special forbidden) write)
         (λ yes. passed) (λ no. unmoved message write (special forbidden) (omega arith) fits refl (unsynced (asks_sync message) write)))
 
-    silent : (message : Message) → Responds address register message write (responding Nothing write)
-    silent message = unmoved message write Nothing tt fits refl (unsynced (asks_sync message) write)
+    silent : (message : Message) → Responds address register message write (responding None write)
+    silent message = unmoved message write None tt fits refl (unsynced (asks_sync message) write)
 
   -- a write that is taken: none runs, and from then on it does
   takes : (value : ℕ) (write : Remembered) → running_in write ≡ [] → register < 256 → value < 2 ^ 32
@@ -103,8 +101,8 @@ module _ (address register : ℕ) where
   pub responds : (access held : ℕ) (message : Message) (write : Remembered) → held < 2 ^ 32 → register < 256 → DataRight message → WriteFits write
       → Responds address register message write (on_message access held register message write)
   responds access held (Bare ReadRequest) write small named right fits =
-      behind write fits access (may_read access) (Bare ReadRequest) (responding (Says (With ReadAcknowledge held)) write)
-      (unmoved (Bare ReadRequest) write (Says (With ReadAcknowledge held)) small fits refl refl)
+      behind write fits access (may_read access) (Bare ReadRequest) (responding (Some (With ReadAcknowledge held)) write)
+      (unmoved (Bare ReadRequest) write (Some (With ReadAcknowledge held)) small fits refl refl)
   responds access held (Bare Sync) write small named right fits = on_sync_lem write fits
   responds access held (Bare NotAcknowledge) write small named right fits = silent write fits (Bare NotAcknowledge)
   responds access held (With WriteRequest value) write small named right fits =
@@ -119,7 +117,7 @@ pub packet_responds : (address : ℕ) (p : Packet) (d : Relay) (write : Remember
 unfolding on_packet
 packet_responds address p d write holds small fits =
     pick_cases (Responds address p.register p.message write) (eqb p.address address)
-    (on_message (access_at d p.register) (value_at d p.register) p.register p.message write) (responding Nothing write)
+    (on_message (access_at d p.register) (value_at d p.register) p.register p.message write) (responding None write)
     (λ own. responds address p.register (access_at d p.register) (value_at d p.register) p.message write small holds.register_right holds.data_right fits)
     (λ other. silent address p.register write fits p.message)
 

@@ -1,9 +1,9 @@
 -- A call made next that is answered: with which packet, by what the device holds and remembers at that moment.
 -- Assumes nothing.
+use Rattle.std.specs.Prelude.{Option, Some, None}
 use mathlib.Core.Path.{◌≡◌, refl, ap, ◌∙◌, subst}
 use mathlib.Core.Bool.{Bool, true, false}
 use mathlib.Core.List.{List, []}
-use mathlib.Core.Option.{none}
 use Prim.Native.Nat.{ℕ, ◌<◌}
 use lib.ListN.{get_or}
 use borrow.Author.Tests.{eq-eqb}
@@ -21,8 +21,6 @@ use Rattle.relay.specs.Calls.{Relaying, relaying, finished}
 use Rattle.relay.specs.declared.Remembered.{Remembered}
 use Rattle.relay.specs.declared.Remembered.TheVariants.{Idle, Running, Finished}
 use Rattle.relay.specs.declared.Response.{Response}
-use Rattle.relay.specs.declared.Said.{Said}
-use Rattle.relay.specs.declared.Said.TheVariants.{Says}
 use Rattle.relaysequence.specs.Calls.{Call, offer, finish, buffer_of, State, relay_of, given}
 use Rattle.relaysequence.specs.Heard.{heard_of}
 use Rattle.relaysequence.specs.Sequence.{WriteFits, Fits, refusal_due, Answered, Reaches, answer, by_access, reason, sync_reason}
@@ -32,9 +30,9 @@ use Rattle.relaysequence.proofs.Refusals.{offer_admitted, finish_admitted}
 
 -- ---- what is said
 
-by_access_lem : (absent may : Bool) (write : Remembered) (r : Response) (message : Message) → r.said ≡ Says message
-    → (pick absent (responding (Says (Bare NotAcknowledge)) write) (pick may r (responding (special forbidden) write))).said
-    ≡ Says (pick absent (Bare NotAcknowledge) (pick may message (With Special forbidden)))
+by_access_lem : (absent may : Bool) (write : Remembered) (r : Response) (message : Message) → r.said ≡ Some message
+    → (pick absent (responding (Some (Bare NotAcknowledge)) write) (pick may r (responding (special forbidden) write))).said
+    ≡ Some (pick absent (Bare NotAcknowledge) (pick may message (With Special forbidden)))
 by_access_lem true may write r message e = refl
 by_access_lem false true write r message e = e
 by_access_lem false false write r message e = refl
@@ -58,7 +56,7 @@ sync_said (Finished finished done) = refl
 
 module _ (packets : RailbusPackets) where
   answered : (call : Call) (now : State) (address register : ℕ) (message : Message) (registers : List ℕ) (write : Remembered) → address < 256 → register < 256 → DataRight message
-      → given call now ≡ relaying address register (Says message) (buffer_of call) registers write → Answered call now (answer address register message)
+      → given call now ≡ relaying address register (Some message) (buffer_of call) registers write → Answered call now (answer address register message)
   answered call now address register message registers write own named right gives =
       record {
         reply_is = ap (λ (g : Relaying). g.reply) gives;
@@ -81,24 +79,24 @@ module _ (packets : RailbusPackets) where
       own_packet = rw (eq-eqb p.address address reaches.own)
 
       -- what is said to its message is the answer
-      answer_next : (asked message : Message) → p.message ≡ asked → (on_message rights held p.register asked now.write).said ≡ Says message
+      answer_next : (asked message : Message) → p.message ≡ asked → (on_message rights held p.register asked now.write).said ≡ Some message
           → Answered (offer address input access buffer) now (answer address p.register message)
       answer_next asked message is says =
           let response = on_packet address p (relay_of now access) now.write in
           let holds = found_holds packets input p reaches.checked reaches.found in
           let r = packet_responds address p (relay_of now access) now.write holds (fits.registers_fit p.register) fits.write_fits in
-          let said_is : response.said ≡ Says message =
+          let said_is : response.said ≡ Some message =
           ap (λ (x : Response). x.said) own_packet ∙ ap (λ (m : Message). (on_message rights held p.register m now.write).said) is ∙ says in
           answered (offer address input access buffer) now address p.register message now.registers response.write
           (subst (λ (a : ℕ). a < 256) reaches.own holds.address_right) holds.register_right (subst SaidRight said_is r.right)
           (offer_admitted now access buffer address input p reaches.checked reaches.admitted reaches.found
-          ∙ ap (λ (said : Said). relaying address p.register said buffer now.registers response.write) said_is)
+          ∙ ap (λ (said : Option Message). relaying address p.register said buffer now.registers response.write) said_is)
 
       pub read_next : p.message ≡ Bare ReadRequest
           → Answered (offer address input access buffer) now (answer address p.register (by_access rights (may_read rights) (With ReadAcknowledge held)))
       read_next is =
           answer_next (Bare ReadRequest) (by_access rights (may_read rights) (With ReadAcknowledge held)) is
-          (by_access_lem (is_absent rights) (may_read rights) now.write (responding (Says (With ReadAcknowledge held)) now.write) (With ReadAcknowledge held) refl)
+          (by_access_lem (is_absent rights) (may_read rights) now.write (responding (Some (With ReadAcknowledge held)) now.write) (With ReadAcknowledge held) refl)
 
       pub write_next : (value : ℕ) → p.message ≡ With WriteRequest value
           → Answered (offer address input access buffer) now
@@ -113,7 +111,7 @@ module _ (packets : RailbusPackets) where
 
     -- ---- a finish
 
-    pub finish_next : (register value : ℕ) → address < 256 → refusal_due (finish address access buffer) now ≡ none → now.write ≡ Running register value
+    pub finish_next : (register value : ℕ) → address < 256 → refusal_due (finish address access buffer) now ≡ None → now.write ≡ Running register value
         → Answered (finish address access buffer) now (answer address register (With WriteAcknowledge value))
     finish_next register value own admitted runs =
         let report = on_finish (Running register value) now.registers in

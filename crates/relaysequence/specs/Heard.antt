@@ -1,22 +1,19 @@
 -- What is told of a device by the packets alone, those offered and those heard: which writes were received, which were carried out,
 -- and which one it must remember.
 -- Assumes nothing.
-use Rattle.std.specs.Prelude.{ℕ, Bool, true, false, ◌&&◌, List, [], ◌∷◌, ◌++◌, eqb, take, set}
+use Rattle.std.specs.Prelude.{ℕ, Bool, true, false, ◌&&◌, List, [], ◌∷◌, ◌++◌, eqb, take, set, Option, Some, None, Result, Ok, Err}
 use Rattle.lists.specs.Choice.{pick}
+use Rattle.refusal.specs.declared.Refusal.{Refusal}
 use Rattle.railbus.specs.Reading.{read_packet}
 use Rattle.railbus.specs.declared.Short.TheVariants.{ReadRequest, Sync, NotAcknowledge}
 use Rattle.railbus.specs.declared.Long.TheVariants.{WriteRequest, ReadAcknowledge, WriteAcknowledge, Special}
 use Rattle.railbus.specs.declared.Message.{Message}
 use Rattle.railbus.specs.declared.Message.TheVariants.{Bare, With}
 use Rattle.railbus.specs.declared.Packet.{Packet}
-use Rattle.railbus.specs.declared.PacketRead.{PacketRead}
-use Rattle.railbus.specs.declared.PacketRead.TheVariants.{Found, Refused as ReadRefused}
 use Rattle.relay.specs.Answers.{received, synced}
 use Rattle.relay.specs.Calls.{Relaying}
 use Rattle.relay.specs.declared.Remembered.{Remembered}
 use Rattle.relay.specs.declared.Remembered.TheVariants.{Idle, Running, Finished}
-use Rattle.relay.specs.declared.Reply.{Reply}
-use Rattle.relay.specs.declared.Reply.TheVariants.{Answer, NoAnswer, Refused}
 use Rattle.relaysequence.specs.Calls.{Call, offer, finish, State, given, stepped}
 
 -- ---- what is heard: the answer at the start of the buffer, as the reader of packets takes it
@@ -25,14 +22,14 @@ pub data Heard : Type 0 where
   silence : Heard
   heard : Packet → Heard
 
-abbrev pub as_read : PacketRead → Heard
-as_read (Found p checked) = heard p
-as_read (ReadRefused why) = silence
+abbrev pub as_read : Result (Packet × Bool) Refusal → Heard
+as_read (Ok (p, checked)) = heard p
+as_read (Err why) = silence
 
-abbrev pub heard_in : Reply → List ℕ → Heard
-heard_in (Answer size) buffer = as_read (read_packet (take size buffer))
-heard_in NoAnswer buffer = silence
-heard_in (Refused why) buffer = silence
+abbrev pub heard_in : Result (Option ℕ) Refusal → List ℕ → Heard
+heard_in (Ok (Some size)) buffer = as_read (read_packet (take size buffer))
+heard_in (Ok None) buffer = silence
+heard_in (Err why) buffer = silence
 
 abbrev pub heard_of : Relaying → Heard
 heard_of g = heard_in g.reply g.buffer
@@ -77,9 +74,9 @@ write_done register (With Special value) = []
 -- ---- one call
 
 -- the write that it received: its packet asks for one, and n 01 is heard
-abbrev pub received_by : PacketRead → Heard → List Write
-received_by (Found p checked) h = pick (is_special received h) (write_asked p.register p.message) []
-received_by (ReadRefused why) h = []
+abbrev pub received_by : Result (Packet × Bool) Refusal → Heard → List Write
+received_by (Ok (p, checked)) h = pick (is_special received h) (write_asked p.register p.message) []
+received_by (Err why) h = []
 
 abbrev pub received_in : Call → State → List Write
 received_in (offer address input access buffer) s = received_by (read_packet input) (heard_of (given (offer address input access buffer) s))
@@ -131,12 +128,12 @@ asks_sync (Bare Sync) = true
 asks_sync (Bare NotAcknowledge) = false
 asks_sync (With long value) = false
 
-abbrev pub is_sync : PacketRead → Bool
-is_sync (Found p checked) = asks_sync p.message
-is_sync (ReadRefused why) = false
+abbrev pub is_sync : Result (Packet × Bool) Refusal → Bool
+is_sync (Ok (p, checked)) = asks_sync p.message
+is_sync (Err why) = false
 
 -- by the packet of an offer, what is heard of it, and the write that it received
-abbrev pub tell_offer : PacketRead → Heard → List Write → Remembered → Remembered
+abbrev pub tell_offer : Result (Packet × Bool) Refusal → Heard → List Write → Remembered → Remembered
 tell_offer read h writes r = pick (is_sync read && is_special synced h) Idle (now_running writes r)
 
 abbrev pub tell : Call → State → Remembered → Remembered

@@ -3,8 +3,7 @@
 -- otherwise; and of a call made next the claim says what it gives, whatever it is. Each field has beside it what it says. The proof is in
 -- proofs/Kept.antt; nothing here needs it to be read.
 -- Assumes nothing.
-use Rattle.std.specs.Prelude.{◌≡◌, ℕ, ◌^◌, ◌<◌, Bool, true, false, not, ◌||◌, List, [], ◌∷◌, ◌++◌, eqb, ltb, length, get_or}
-use Rattle.std.proofs.Math.Option.{Option, some, none}
+use Rattle.std.specs.Prelude.{◌≡◌, ℕ, ◌^◌, ◌<◌, Bool, true, false, not, ◌||◌, List, [], ◌∷◌, ◌++◌, eqb, ltb, length, get_or, Option, Some, None, Result, Ok, Err}
 use Rattle.lists.specs.Choice.{pick}
 use Rattle.lists.specs.Starting.{starting}
 use Rattle.refusal.specs.Number.{output_short, table_not_valid, at_place}
@@ -16,14 +15,11 @@ use Rattle.railbus.specs.declared.Long.TheVariants.{WriteRequest, ReadAcknowledg
 use Rattle.railbus.specs.declared.Message.{Message}
 use Rattle.railbus.specs.declared.Message.TheVariants.{Bare, With}
 use Rattle.railbus.specs.declared.Packet.{Packet}
-use Rattle.railbus.specs.declared.PacketRead.{PacketRead}
-use Rattle.railbus.specs.declared.PacketRead.TheVariants.{Found, Refused as ReadRefused}
 use Rattle.relay.specs.Device.{is_absent, may_read, may_write, valid_relay}
 use Rattle.relay.specs.Answers.{received, retransmission, done_before, forbidden, busy, synced, copy}
 use Rattle.relay.specs.Calls.{relay_room, Relaying, relay_refusing}
 use Rattle.relay.specs.declared.Remembered.{Remembered}
 use Rattle.relay.specs.declared.Remembered.TheVariants.{Idle, Running, Finished}
-use Rattle.relay.specs.declared.Reply.TheVariants.{Answer, NoAnswer}
 use Rattle.relaysequence.specs.Calls.{Call, offer, finish, access_of, buffer_of, State, relay_of, given, after_all}
 use Rattle.relaysequence.specs.Heard.{heard, heard_of, received_writes, carried_out, stored, last_to, told, running_in}
 
@@ -52,32 +48,32 @@ pub record Fits (before : State) (calls : List Call) : Type 0 where
 -- why it is refused, if it is: its buffer is under 17 characters, registers and access bytes are not valid, or the reader refused its packet
 abbrev pub device_refusal : State → List ℕ → List ℕ → Option Refusal → Option Refusal
 device_refusal now access buffer otherwise =
-    pick (ltb (length buffer) relay_room) (some (at_place output_short 0))
-    (pick (valid_relay (relay_of now access)) otherwise (some (at_place table_not_valid 0)))
+    pick (ltb (length buffer) relay_room) (Some (at_place output_short 0))
+    (pick (valid_relay (relay_of now access)) otherwise (Some (at_place table_not_valid 0)))
 
-abbrev pub reader_refusal : PacketRead → Option Refusal
-reader_refusal (Found p checked) = none
-reader_refusal (ReadRefused why) = some why
+abbrev pub reader_refusal : Result (Packet × Bool) Refusal → Option Refusal
+reader_refusal (Ok (p, checked)) = None
+reader_refusal (Err why) = Some why
 
 abbrev pub refusal_due : Call → State → Option Refusal
 refusal_due (offer address input access buffer) now = device_refusal now access buffer (reader_refusal (read_packet input))
-refusal_due (finish address access buffer) now = device_refusal now access buffer none
+refusal_due (finish address access buffer) now = device_refusal now access buffer None
 
 -- no answer: the buffer, the registers and the remembered write are as they were
 abbrev pub unanswered : Call → State → Relaying
-unanswered call now = record { reply = NoAnswer; buffer = buffer_of call; registers = now.registers; write = now.write }
+unanswered call now = record { reply = Ok None; buffer = buffer_of call; registers = now.registers; write = now.write }
 
 -- it is answered with this packet: its characters stand at the start of the buffer, nothing behind them changes, and it is read as that
 pub record Answered (call : Call) (now : State) (p : Packet) : Type 0 where
-  pub reply_is : (given call now).reply ≡ Answer (length (packet_text p))
+  pub reply_is : (given call now).reply ≡ Ok (Some (length (packet_text p)))
   pub buffer_is : (given call now).buffer ≡ starting (packet_text p) (buffer_of call)
   pub read_as : heard_of (given call now) ≡ heard p
 
 -- a packet that reaches the device: it is not refused, and is for the address
 pub record Reaches (now : State) (address : ℕ) (input access buffer : List ℕ) (p : Packet) : Type 0 where
-  pub admitted : refusal_due (offer address input access buffer) now ≡ none
+  pub admitted : refusal_due (offer address input access buffer) now ≡ None
   pub checked : Bool
-  pub found : read_packet input ≡ Found p checked
+  pub found : read_packet input ≡ Ok (p, checked)
   pub own : p.address ≡ address
 
 -- a packet that asks nothing of it: it is for another address, or is itself an answer
@@ -123,7 +119,7 @@ pub record Kept (before : State) (calls : List Call) : Type 0 where
   -- the device remembers what the packets tell
   pub remembered : (after_all calls before).write ≡ told calls before before.write
   -- a call made next is refused for these reasons alone, and then changes nothing, its buffer included
-  pub refuses : (call : Call) (why : Refusal) → refusal_due call (after_all calls before) ≡ some why
+  pub refuses : (call : Call) (why : Refusal) → refusal_due call (after_all calls before) ≡ Some why
       → given call (after_all calls before) ≡ relay_refusing why (buffer_of call) (relay_of (after_all calls before) (access_of call)) (after_all calls before).write
   -- a read made next, where the access byte allows it, is answered with what the last write carried out to that register left, or with what the
   -- register held at first; also while a write runs
@@ -145,14 +141,14 @@ pub record Kept (before : State) (calls : List Call) : Type 0 where
       → Answered (offer address input access buffer) (after_all calls before)
       (answer address p.register (With Special (sync_reason (told calls before before.write))))
   -- a packet that asks nothing of the device gets no answer and changes nothing
-  pub unasked : (address : ℕ) (input access buffer : List ℕ) (p : Packet) (checked : Bool) → refusal_due (offer address input access buffer) (after_all calls before) ≡ none
-      → read_packet input ≡ Found p checked → asks_nothing address p ≡ true
+  pub unasked : (address : ℕ) (input access buffer : List ℕ) (p : Packet) (checked : Bool) → refusal_due (offer address input access buffer) (after_all calls before) ≡ None
+      → read_packet input ≡ Ok (p, checked) → asks_nothing address p ≡ true
       → given (offer address input access buffer) (after_all calls before) ≡ unanswered (offer address input access buffer) (after_all calls before)
   -- a finish made next is answered with the I of the write that runs; where none runs it gets no answer and changes nothing
   pub finishes : (address : ℕ) (access buffer : List ℕ) (register value : ℕ) → address < 256
-      → refusal_due (finish address access buffer) (after_all calls before) ≡ none → told calls before before.write ≡ Running register value
+      → refusal_due (finish address access buffer) (after_all calls before) ≡ None → told calls before before.write ≡ Running register value
       → Answered (finish address access buffer) (after_all calls before) (answer address register (With WriteAcknowledge value))
-  pub nothing_runs : (address : ℕ) (access buffer : List ℕ) → refusal_due (finish address access buffer) (after_all calls before) ≡ none
+  pub nothing_runs : (address : ℕ) (access buffer : List ℕ) → refusal_due (finish address access buffer) (after_all calls before) ≡ None
       → running_in (told calls before before.write) ≡ []
       → given (finish address access buffer) (after_all calls before) ≡ unanswered (finish address access buffer) (after_all calls before)
 

@@ -3,11 +3,11 @@
 use mathlib.Core.Path.{◌≡◌, refl, sym, ap, ◌∙◌}
 use mathlib.Core.Bool.{true, false, ◌&&◌}
 use mathlib.Core.List.{List, []}
-use Prim.Native.Nat.{ℕ, ◌+◌, ◌-◌, ◌≤◌, ◌<◌}
+use Prim.Native.Nat.{ℕ, ◌+◌, ◌-◌, ◌≤◌}
 use native.Mathlib.Omega.{arith}
 use lib.Dec.{leb}
 use lib.ListN.{length, get_or, take, drop}
-use borrow.Author.Tests.{le-leb, lt-leb, leb-true, eq-eqb, ne_eqb}
+use borrow.Author.Tests.{le-leb, leb-true, eq-eqb, ne_eqb}
 use Rattle.lists.proofs.Cases.{both_first, both_second}
 use Rattle.telegram.specs.Telegram.{longest}
 use Rattle.replies.specs.Data.{holds_data, behind_length, empty_start, part_in, part_of, shown, reply_data, part_place, ShowsData}
@@ -16,23 +16,10 @@ module _ (buffer : List ℕ) where
   abbrev size : ℕ
   size = get_or buffer 0 0
 
-  -- ---- the test
-
+  -- data that stands whole behind its length is held
   pub holds : 1 ≤ length buffer → size ≤ longest → 1 + size ≤ length buffer → holds_data buffer ≡ true
   unfolding holds_data
   holds some short within = simp (le-leb _ _ some, le-leb _ _ short, le-leb _ _ within)
-
-  pub holds_empty : length buffer < 1 → holds_data buffer ≡ false
-  unfolding holds_data
-  holds_empty none = simp (lt-leb _ _ none)
-
-  pub holds_over : 1 ≤ length buffer → longest < size → holds_data buffer ≡ false
-  unfolding holds_data
-  holds_over some over = simp (le-leb _ _ some, lt-leb _ _ over)
-
-  pub holds_past : 1 ≤ length buffer → size ≤ longest → length buffer < 1 + size → holds_data buffer ≡ false
-  unfolding holds_data
-  holds_past some short past = simp (le-leb _ _ some, le-leb _ _ short, lt-leb _ _ past)
 
   -- data that is held ends within the buffer
   pub held_within : holds_data buffer ≡ true → (1 ≤ length buffer) × (1 + size ≤ length buffer)

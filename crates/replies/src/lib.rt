@@ -8,21 +8,12 @@ use telegram::LONGEST;
 
 // Whether a buffer holds LEN and the data behind it: not where there is no LEN, where it is over 16,
 // and where the data would pass the end.
+#[tactic(auto, unfolding(crate::specs::Data::holds_data))]
 pub fn holds_data(buffer: &[u8]) -> bool
     ensures { result ≡ holds_data buffer.now }
 {
-    if buffer.len() < 1 {
-        return false;
-    }
-    let n = buffer[0];
-    let size = n as usize;
-    if LONGEST < size {
-        return false;
-    }
-    if buffer.len() < 1 + size {
-        return false;
-    }
-    true
+    let size = lists::byte_at(buffer, 0) as usize;
+    !buffer.is_empty() && size <= LONGEST && 1 + size <= buffer.len()
 }
 
 // The data of the reply attempt asked for, a part of its buffer. The buffers are those that the

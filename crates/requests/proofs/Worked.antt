@@ -1,5 +1,6 @@
 -- The W row of requests in docs/RULES.md, of the definitions.
 -- Assumes nothing.
+use Rattle.std.specs.Prelude.{Ok}
 use mathlib.Core.Path.{◌≡◌, refl}
 use mathlib.Core.List.{List, [], ◌∷◌}
 use Prim.Native.Nat.{ℕ}
@@ -11,7 +12,6 @@ use Rattle.framing.specs.Layout.{check_bytes}
 use Rattle.requests.specs.Layout.{request_frame}
 use Rattle.requests.specs.Reading.{read_request}
 use Rattle.requests.specs.declared.Request.TheVariants.{Start, Continue}
-use Rattle.requests.specs.declared.RequestRead.TheVariants.{Asked}
 
 -- W9: the two requests
 abbrev w9_start : List ℕ
@@ -20,6 +20,6 @@ w9_start = 0xFD ∷ 0x46 ∷ 0x01 ∷ 0x13 ∷ 0x90 ∷ []
 abbrev w9_continue : List ℕ
 w9_continue = 0xFD ∷ 0x46 ∷ 0x02 ∷ 0x53 ∷ 0x91 ∷ []
 
-pub w9 : (request_frame Start ≡ w9_start) × (request_frame Continue ≡ w9_continue) × (read_request w9_start ≡ Asked Start) × (read_request w9_continue ≡ Asked Continue)
+pub w9 : (request_frame Start ≡ w9_start) × (request_frame Continue ≡ w9_continue) × (read_request w9_start ≡ Ok Start) × (read_request w9_continue ≡ Ok Continue)
 unfolding step steps modbus_bytes modbus_check check_bytes frame request_frame passed same judged framed_at read_request
 w9 = (refl, refl, refl, refl)

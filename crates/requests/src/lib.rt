@@ -11,21 +11,14 @@ ghost use Rattle.requests.specs.Layout.{subcommand_of};
 ghost use Rattle.requests.specs.Reading.{asked_for, read_request};
 ghost use Rattle.requests.specs.Writing.{write_request};
 
-use framing::{BROADCAST, CONTINUE, EXTENDED, Head, START, head_at, write_closed};
-use refusal::{Refusal, Written};
+use framing::{BROADCAST, CONTINUE, EXTENDED, START, head_at, write_closed};
+use refusal::Refusal;
 
 // What a client asks of the devices.
 #[derive(Clone, Copy)]
 pub enum Request {
     Start,
     Continue,
-}
-
-// What the request reader finds.
-#[derive(Clone, Copy)]
-pub enum RequestRead {
-    Asked(Request),
-    Refused(Refusal),
 }
 
 // ---- reading
@@ -41,14 +34,11 @@ fn asked(subcommand: u8) -> Request
 }
 
 // What a request frame asks. It must fill the whole input; nothing is passed over.
-pub fn read_request(input: &[u8]) -> RequestRead
+pub fn read_request(input: &[u8]) -> Result<Request, Refusal>
     ensures { result ≡ read_request input.now }
 {
-    let head = head_at(START, CONTINUE, input, 0);
-    match head {
-        Head::Framed(subcommand) => RequestRead::Asked(asked(subcommand)),
-        Head::Wrong(why) => RequestRead::Refused(why),
-    }
+    let subcommand = head_at(START, CONTINUE, input, 0)?;
+    Ok(asked(subcommand))
 }
 
 // ---- writing
@@ -64,7 +54,7 @@ fn subcommand_of(request: Request) -> u8
 }
 
 // Writes a request frame.
-pub fn write_request(request: Request, out: &mut [u8]) -> Written
+pub fn write_request(request: Request, out: &mut [u8]) -> Result<usize, Refusal>
     ensures { Wrote id (write_request request (length out.old)) result out.old out.new }
 {
     let body = [BROADCAST, EXTENDED, subcommand_of(request)];

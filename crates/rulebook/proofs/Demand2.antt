@@ -1,5 +1,7 @@
 -- Demand 2 holds.
 -- Assumes nothing.
+use Rattle.std.specs.Prelude.{Result, Ok, Err}
+use Rattle.exchange.specs.declared.judge.Accepted.{Accepted}
 use mathlib.Core.Path.{◌≡◌, refl, sym, ap, ◌∙◌, subst}
 use mathlib.Core.Bool.{Bool, true, false}
 use mathlib.Core.List.{List, [], ◌++◌}
@@ -12,8 +14,6 @@ use borrow.Author.Tests.{le-leb, lt-ltb, ltb-true}
 use Rattle.lists.specs.Choice.{pick}
 use Rattle.lists.proofs.Cases.{by_test}
 use Rattle.refusal.specs.Number.{output_short, serial_over, at_place}
-use Rattle.refusal.specs.declared.Written.{Written}
-use Rattle.refusal.specs.declared.Written.TheVariants.{Length, Refused as WriteRefused}
 use Rattle.refusal.proofs.Writer.{fitted, fits_whole, accepted as accepted_bytes, accepted_length}
 use Rattle.lists.specs.Starting.{starting}
 use Rattle.refusal.specs.Output.{Output, bytes, refused, content, fitting, written, left, Wrote}
@@ -26,9 +26,8 @@ use Rattle.telegram.specs.Telegram.{longest, command_room, reply_room}
 use Rattle.sending.specs.Sending.{command_output, reply_output}
 use Rattle.exchange.specs.Exchange.{Outcome, accepted, rejected, exchange_at, exchange, limit, rooms, judged}
 use Rattle.replies.specs.Data.{reply_data}
-use Rattle.exchange.specs.View.{answered, command_of, first_of, second_of, Judges}
-use Rattle.exchange.specs.declared.judge.Judged.{Judged}
-use Rattle.exchange.specs.declared.judge.Judged.TheVariants.{Accepted, Refused}
+use Rattle.exchange.specs.View.{accepted_as, answered, command_of, first_of, second_of, Judges}
+use Rattle.exchange.specs.Inner.{outcome_as}
 use Rattle.exchange.proofs.Buffers.{room_enough}
 use Rattle.framing.specs.Layout.{serial_limit}
 use Rattle.requests.specs.Layout.{request_frame}
@@ -74,7 +73,7 @@ behind_rooms run c f s kind a b n command first second e =
     sym (ap (λ (x : Bool). pick x (exchange (take limit run)) (rejected (at_place output_short 0))) short) ∙ e in
     let z : ◌≡◌ {A = ℕ} 0 1 = cc in let g : ⊥ = omega arith in absurd g)
 
-module _ (run c f s : List ℕ) (r : Judged) (c' f' s' : List ℕ)
+module _ (run c f s : List ℕ) (r : Result Accepted Refusal) (c' f' s' : List ℕ)
     (judges : Judges id (judged run (length c) (length f) (length s)) r c c' f f' s s') where
   -- what is judged is answered, and fills the buffers
   answers : (o : Outcome) → judged run (length c) (length f) (length s) ≡ o → (r ≡ answered o) × Filled (command_of o) (first_of o) (second_of o) c f s c' f' s'
@@ -89,7 +88,7 @@ module _ (run c f s : List ℕ) (r : Judged) (c' f' s' : List ℕ)
 
   takes : command_room ≤ length c → reply_room ≤ length f → reply_room ≤ length s
       → (kind : ExchangeKind) (a b n : ℕ) (command first second : List ℕ) → Recorded run kind a b n command first second → n ≤ limit
-      → (r ≡ Accepted kind a b n) × Filled command first second c f s c' f' s' × Shown b first second f' s'
+      → (r ≡ Ok (accepted_as kind a b n)) × Filled command first second c f s c' f' s' × Shown b first second f' s'
   takes c_room f_room s_room kind a b n command first second recorded within =
       let given = answers (accepted kind a b n command first second)
       (room_enough (length c) (length f) (length s) run c_room f_room s_room ∙ recorded_accepted (take limit run) kind a b n command first second (recorded_read run kind a b n command first second recorded within)) in (
@@ -100,14 +99,14 @@ module _ (run c f s : List ℕ) (r : Judged) (c' f' s' : List ℕ)
             (data_shown kind a b command first second recorded.raw f s recorded.by_rules)),
       )
 
-  only : (kind : ExchangeKind) (a b n : ℕ) → r ≡ Accepted kind a b n
+  only : (kind : ExchangeKind) (a b n : ℕ) → r ≡ Ok (accepted_as kind a b n)
       → (command : List ℕ) × (first : List ℕ) × (second : List ℕ) × Recorded run kind a b n command first second × (n ≤ limit)
   only kind a b n told = by (judged run (length c) (length f) (length s)) refl
     where
       by : (o : Outcome) → judged run (length c) (length f) (length s) ≡ o → (command : List ℕ) × (first : List ℕ) × (second : List ℕ) × Recorded run kind a b n command first second × (n ≤ limit)
       by (accepted kind' a' b' n' command first second) e =
           let given = (answers (accepted kind' a' b' n' command first second) e).0 in
-          let same : accepted kind' a' b' n' command first second ≡ accepted kind a b n command first second = cc in
+          let same : accepted kind' a' b' n' command first second ≡ accepted kind a b n command first second = ap (outcome_as command first second) (sym given ∙ told) in
           let found = recorded_longer run kind a b n command first second (accepted_recorded (take limit run) kind a b n command first second (behind_rooms run (length c) (length f) (length s) kind a b n command first second (e ∙ same))) in
           (command, first, second, found.0, found.1)
       by (rejected why) e =
@@ -116,7 +115,7 @@ module _ (run c f s : List ℕ) (r : Judged) (c' f' s' : List ℕ)
           let g : ⊥ = omega arith in
           absurd g
 
-  leaves : (why : Refusal) → r ≡ Refused why → Filled [] [] [] c f s c' f' s'
+  leaves : (why : Refusal) → r ≡ Err why → Filled [] [] [] c f s c' f' s'
   leaves why told = by (judged run (length c) (length f) (length s)) refl
     where
       by : (o : Outcome) → judged run (length c) (length f) (length s) ≡ o → Filled [] [] [] c f s c' f' s'
@@ -129,22 +128,22 @@ module _ (run c f s : List ℕ) (r : Judged) (c' f' s' : List ℕ)
 
 -- ---- the writers
 
-module _ (due : Output) (r : Written) (old new : List ℕ) (wrote : Wrote id (fitting (length old) due) r old new) where
-  writes : (raw : List ℕ) → due ≡ bytes raw → length raw ≤ length old → (r ≡ Length (length raw)) × (new ≡ starting raw old)
+module _ (due : Output) (r : Result ℕ Refusal) (old new : List ℕ) (wrote : Wrote id (fitting (length old) due) r old new) where
+  writes : (raw : List ℕ) → due ≡ bytes raw → length raw ≤ length old → (r ≡ Ok (length raw)) × (new ≡ starting raw old)
   writes raw is fits =
       let whole = ap (fitting (length old)) is ∙ fits_whole raw (length old) fits in
       (wrote.result ∙ ap written whole, wrote.output ∙ ap (λ (o : Output). left o old) whole)
 
-  writes_only : (n : ℕ) → r ≡ Length n → (raw : List ℕ) × (due ≡ bytes raw) × (n ≡ length raw) × (length raw ≤ length old)
+  writes_only : (n : ℕ) → r ≡ Ok n → (raw : List ℕ) × (due ≡ bytes raw) × (n ≡ length raw) × (length raw ≤ length old)
   writes_only n told =
-      let size : written (fitting (length old) due) ≡ Length n = sym wrote.result ∙ told in
+      let size : written (fitting (length old) due) ≡ Ok n = sym wrote.result ∙ told in
       let given = fitted due (length old) _ (accepted_bytes (fitting (length old) due) n size) in
       (content (fitting (length old) due), given.0, sym (accepted_length (fitting (length old) due) n size), given.1)
 
-  writes_leaves : (why : Refusal) → r ≡ WriteRefused why → new ≡ old
+  writes_leaves : (why : Refusal) → r ≡ Err why → new ≡ old
   writes_leaves why told = by (fitting (length old) due) (sym wrote.result ∙ told) wrote.output
     where
-      by : (o : Output) → written o ≡ WriteRefused why → new ≡ left o old → new ≡ old
+      by : (o : Output) → written o ≡ Err why → new ≡ left o old → new ≡ old
       by (bytes bs) e is = let z : ◌≡◌ {A = ℕ} 0 1 = cc in let g : ⊥ = omega arith in absurd g
       by (refused w) e is = is
 

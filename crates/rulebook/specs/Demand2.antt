@@ -1,15 +1,13 @@
--- Demand 2, as one claim: of eBUS, of the frames of Fast Modbus, scans and events, and of the packets of Railbus, what is read is exactly what may be
--- written, or on Railbus that with a checksum that is not examined, and what was written is read back. Each line says in our words what it states. The proof is in proofs/Demand2.antt; nothing here needs it to
--- be read.
+-- Demand 2, as one claim: of eBUS, of the frames of Fast Modbus, scans and events, and of the packets of Railbus, what is
+-- read is exactly what may be written, or on Railbus that with a checksum that is not examined, and what was written is read
+-- back. Each line says in our words what it states. The proof is in proofs/Demand2.antt; nothing here needs it to be read.
 -- Assumes nothing.
-use Rattle.std.specs.Prelude.{◌≡◌, true, false, List, [], ◌∷◌, ◌++◌, ℕ, ◌+◌, ◌≤◌, ◌<◌, eqb, length, get_or, drop, replicate}
+use Rattle.std.specs.Prelude.{◌≡◌, true, false, List, [], ◌∷◌, ◌++◌, ℕ, ◌+◌, ◌≤◌, ◌<◌, eqb, length, get_or, drop, replicate, Result, Ok, Err}
 use mathlib.Mathlib.Logic.Function.Defs.{id}
 use Rattle.lists.specs.Choice.{pick}
 use Rattle.lists.specs.Starting.{starting}
 use Rattle.refusal.specs.Number.{frame_length, fill_over, at_place}
 use Rattle.refusal.specs.Output.{Output, bytes, fitting, Wrote}
-use Rattle.refusal.specs.declared.Written.{Written}
-use Rattle.refusal.specs.declared.Written.TheVariants.{Length, Refused as WriteRefused}
 use Rattle.refusal.specs.declared.Refusal.{Refusal}
 use Rattle.escapes.specs.Escape.{syn, expanded}
 use Rattle.escapes.specs.Undo.{undone}
@@ -21,9 +19,8 @@ use Rattle.sending.specs.Sending.{command_output, reply_output}
 use Rattle.attempts.specs.Attempt.{ack}
 use Rattle.exchange.specs.Exchange.{accepted, exchange_at, exchange, limit, judged}
 use Rattle.replies.specs.Data.{reply_data}
-use Rattle.exchange.specs.View.{Judges}
-use Rattle.exchange.specs.declared.judge.Judged.{Judged}
-use Rattle.exchange.specs.declared.judge.Judged.TheVariants.{Accepted, Refused}
+use Rattle.exchange.specs.View.{accepted_as, Judges}
+use Rattle.exchange.specs.declared.judge.Accepted.{Accepted}
 use Rattle.framing.specs.Layout.{serial_limit}
 use Rattle.requests.specs.Layout.{request_frame}
 use Rattle.answers.specs.Layout.{found_frame, end_frame}
@@ -32,8 +29,7 @@ use Rattle.answers.specs.Reading.{fill, read_answer}
 use Rattle.requests.specs.Writing.{write_request}
 use Rattle.answers.specs.Writing.{write_found, write_end}
 use Rattle.requests.specs.declared.Request.{Request}
-use Rattle.requests.specs.declared.RequestRead.TheVariants.{Asked}
-use Rattle.answers.specs.declared.AnswerRead.TheVariants.{Found, End, Refused as AnswerRefused}
+use Rattle.answers.specs.declared.AnswerRead.TheVariants.{Found, End}
 use Rattle.eventrequests.specs.Layout.{event_request_frame}
 use Rattle.eventrequests.specs.Writing.{write_event_request}
 use Rattle.eventrequests.specs.RoundTrip.{EventRequests}
@@ -81,26 +77,26 @@ pub record Shown (replies : ℕ) (first second f' s' : List ℕ) : Type 0 where
   pub acknowledged : 0 < replies → (reply : ReplyForm (pick (eqb replies 2) second first)) × (reply_data f' s' replies ≡ reply.payload)
 
 -- what the judge answered, r, for a run and buffers that held c, f, s and now hold c', f', s'
-pub record Judging (run : List ℕ) (c f s : List ℕ) (r : Judged) (c' f' s' : List ℕ) : Type 0 where
+pub record Judging (run : List ℕ) (c f s : List ℕ) (r : Result Accepted Refusal) (c' f' s' : List ℕ) : Type 0 where
   -- with buffers that are long enough, what the rule book has behind the run's idle time is accepted, if it ends within the bytes that
   -- are read: with its kind, attempts and bytes read, the buffers filled with its telegrams, and its data shown
   pub takes : command_room ≤ length c → reply_room ≤ length f → reply_room ≤ length s
       → (kind : ExchangeKind) (commands replies next : ℕ) (command first second : List ℕ) → Recorded run kind commands replies next command first second → next ≤ limit
-      → (r ≡ Accepted kind commands replies next) × Filled command first second c f s c' f' s' × Shown replies first second f' s'
+      → (r ≡ Ok (accepted_as kind commands replies next)) × Filled command first second c f s c' f' s' × Shown replies first second f' s'
   -- nothing else is accepted
-  pub only : (kind : ExchangeKind) (commands replies next : ℕ) → r ≡ Accepted kind commands replies next
+  pub only : (kind : ExchangeKind) (commands replies next : ℕ) → r ≡ Ok (accepted_as kind commands replies next)
       → (command : List ℕ) × (first : List ℕ) × (second : List ℕ) × Recorded run kind commands replies next command first second × (next ≤ limit)
   -- a refusal leaves the buffers as they were, rule N1
-  pub leaves : (why : Refusal) → r ≡ Refused why → Filled [] [] [] c f s c' f' s'
+  pub leaves : (why : Refusal) → r ≡ Err why → Filled [] [] [] c f s c' f' s'
 
 -- what a writer answered, r, to which this is due, for an output that held old and now holds new
-pub record Writing (due : Output) (r : Written) (old new : List ℕ) : Type 0 where
+pub record Writing (due : Output) (r : Result ℕ Refusal) (old new : List ℕ) : Type 0 where
   -- where it fits it is written, its length answered, and the bytes behind it stay
-  pub writes : (raw : List ℕ) → due ≡ bytes raw → length raw ≤ length old → (r ≡ Length (length raw)) × (new ≡ starting raw old)
+  pub writes : (raw : List ℕ) → due ≡ bytes raw → length raw ≤ length old → (r ≡ Ok (length raw)) × (new ≡ starting raw old)
   -- nothing else is written
-  pub only : (n : ℕ) → r ≡ Length n → (raw : List ℕ) × (due ≡ bytes raw) × (n ≡ length raw) × (length raw ≤ length old)
+  pub only : (n : ℕ) → r ≡ Ok n → (raw : List ℕ) × (due ≡ bytes raw) × (n ≡ length raw) × (length raw ≤ length old)
   -- a refusal leaves the output as it was, rule N1
-  pub leaves : (why : Refusal) → r ≡ WriteRefused why → new ≡ old
+  pub leaves : (why : Refusal) → r ≡ Err why → new ≡ old
 
 pub record BusDemand : Type 0 where
   -- escapes are undone, and no other raw bytes are than those that expanding gives
@@ -117,10 +113,10 @@ pub record BusDemand : Type 0 where
   pub recorded_accepted : (run : List ℕ) (kind : ExchangeKind) (commands replies next : ℕ) (command first second : List ℕ)
       → Recorded run kind commands replies next command first second → exchange run ≡ accepted kind commands replies next command first second
   -- and so the judge
-  pub judging : (run c f s : List ℕ) (r : Judged) (c' f' s' : List ℕ)
+  pub judging : (run c f s : List ℕ) (r : Result Accepted Refusal) (c' f' s' : List ℕ)
       → Judges id (judged run (length c) (length f) (length s)) r c c' f f' s s' → Judging run c f s r c' f' s'
   -- every writer of eBUS (of escapes, undone escapes, commands and replies), by its promise
-  pub writing : (due : Output) (r : Written) (old new : List ℕ) → Wrote id (fitting (length old) due) r old new → Writing due r old new
+  pub writing : (due : Output) (r : Result ℕ Refusal) (old new : List ℕ) → Wrote id (fitting (length old) due) r old new → Writing due r old new
   -- the writers write every command and every reply that rules E9 and E10 allow
   pub command_writes : (source destination primary secondary : ℕ) (payload : List ℕ) → initiator source ≡ true → reserved destination ≡ false → length payload ≤ longest
       → command_output source destination primary secondary payload ≡ bytes (expanded (command_bytes source destination primary secondary payload))
@@ -168,18 +164,18 @@ pub record FrameDemand : Type 0 where
       → (serial < serial_limit) × (raw ≡ found_frame serial address) × (length raw ≤ room)
   pub end_only : (room : ℕ) (raw : List ℕ) → write_end room ≡ bytes raw → (raw ≡ end_frame) × (length raw ≤ room)
   -- each frame is read back as what went into it; an answer behind up to 32 FF, which are counted
-  pub request_back : (request : Request) → read_request (request_frame request) ≡ Asked request
-  pub found_back : (n serial address : ℕ) → n ≤ 32 → serial < serial_limit → read_answer (replicate n fill ++ found_frame serial address) ≡ Found n serial address
-  pub end_back : (n : ℕ) → n ≤ 32 → read_answer (replicate n fill ++ end_frame) ≡ End n
+  pub request_back : (request : Request) → read_request (request_frame request) ≡ Ok request
+  pub found_back : (n serial address : ℕ) → n ≤ 32 → serial < serial_limit → read_answer (replicate n fill ++ found_frame serial address) ≡ Ok (Found n serial address)
+  pub end_back : (n : ℕ) → n ≤ 32 → read_answer (replicate n fill ++ end_frame) ≡ Ok (End n)
   -- up to 32 FF with nothing behind them are a wrong length
-  pub fill_alone : (n : ℕ) → n ≤ 32 → read_answer (replicate n fill) ≡ AnswerRefused (at_place frame_length 0)
+  pub fill_alone : (n : ℕ) → n ≤ 32 → read_answer (replicate n fill) ≡ Err (at_place frame_length 0)
   -- a 33rd FF is refused at its place, whatever follows it
-  pub over_refused : (n : ℕ) (rest : List ℕ) → 32 < n → read_answer (replicate n fill ++ rest) ≡ AnswerRefused (at_place fill_over 32)
+  pub over_refused : (n : ℕ) (rest : List ℕ) → 32 < n → read_answer (replicate n fill ++ rest) ≡ Err (at_place fill_over 32)
   -- what is accepted is the frame that is written for what was read; an answer's, behind as many FF as are counted
-  pub request_exact : (input : List ℕ) (request : Request) → read_request input ≡ Asked request → input ≡ request_frame request
-  pub found_exact : (input : List ℕ) (n serial address : ℕ) → ((i : ℕ) → get_or input i 0 < 256) → read_answer input ≡ Found n serial address
+  pub request_exact : (input : List ℕ) (request : Request) → read_request input ≡ Ok request → input ≡ request_frame request
+  pub found_exact : (input : List ℕ) (n serial address : ℕ) → ((i : ℕ) → get_or input i 0 < 256) → read_answer input ≡ Ok (Found n serial address)
       → (n ≤ 32) × (serial < serial_limit) × (input ≡ replicate n fill ++ found_frame serial address)
-  pub end_exact : (input : List ℕ) (n : ℕ) → read_answer input ≡ End n → (n ≤ 32) × (input ≡ replicate n fill ++ end_frame)
+  pub end_exact : (input : List ℕ) (n : ℕ) → read_answer input ≡ Ok (End n) → (n ≤ 32) × (input ≡ replicate n fill ++ end_frame)
 
 -- ---- the frames of event polling
 

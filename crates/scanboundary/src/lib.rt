@@ -11,9 +11,9 @@ ghost use Rattle.scanboundary.specs.ForC.{response_for_c, decided_for_c, request
 use answers::AnswerRead;
 use arbitration::Decided;
 use boundary::{MoorWritten, refused_for_c, written_for_c};
-use devices::{Response, Scanned};
-use refusal::{Refusal, Written};
-use requests::{Request, RequestRead};
+use devices::Scanned;
+use refusal::Refusal;
+use requests::Request;
 
 // The numbers of requests and answers, and of a scan's end.
 pub const START: u8 = 1;
@@ -73,13 +73,13 @@ pub struct MoorScanned {
     pub skipped: usize,
 }
 
-pub fn response_for_c(x: Response) -> MoorWritten
+pub fn response_for_c(x: Result<Option<usize>, Refusal>) -> MoorWritten
     ensures { result ≡ response_for_c x }
 {
     match x {
-        Response::Answered(length) => written_for_c(Written::Length(length)),
-        Response::Silent => written_for_c(Written::Length(0)),
-        Response::Refused(why) => refused_for_c(why),
+        Ok(Some(length)) => written_for_c(Ok(length)),
+        Ok(None) => written_for_c(Ok(0)),
+        Err(why) => refused_for_c(why),
     }
 }
 
@@ -93,15 +93,13 @@ fn asked(request: u8) -> MoorRequestRead
     }
 }
 
-pub fn request_for_c(x: RequestRead) -> MoorRequestRead
+pub fn request_for_c(x: Result<Request, Refusal>) -> MoorRequestRead
     ensures { result ≡ request_for_c x }
 {
     match x {
-        RequestRead::Asked(request) => match request {
-            Request::Start => asked(START),
-            Request::Continue => asked(CONTINUE),
-        },
-        RequestRead::Refused(why) => MoorRequestRead {
+        Ok(Request::Start) => asked(START),
+        Ok(Request::Continue) => asked(CONTINUE),
+        Err(why) => MoorRequestRead {
             number: why.number,
             request: 0,
             place: why.place,
@@ -123,17 +121,19 @@ fn accepted(answer: u8, address: u8, serial: u32, skipped: usize) -> MoorAnswerR
     }
 }
 
-pub fn answer_for_c(x: AnswerRead) -> MoorAnswerRead
+pub fn answer_for_c(x: Result<AnswerRead, Refusal>) -> MoorAnswerRead
     ensures { result ≡ answer_for_c x }
 {
     match x {
-        AnswerRead::Found {
-            skipped,
-            serial,
-            address,
-        } => accepted(FOUND, address, serial, skipped),
-        AnswerRead::End { skipped } => accepted(END, 0, 0, skipped),
-        AnswerRead::Refused(why) => MoorAnswerRead {
+        Ok(
+            AnswerRead::Found {
+                skipped,
+                serial,
+                address,
+            },
+        ) => accepted(FOUND, address, serial, skipped),
+        Ok(AnswerRead::End { skipped }) => accepted(END, 0, 0, skipped),
+        Err(why) => MoorAnswerRead {
             number: why.number,
             answer: 0,
             address: 0,
@@ -178,20 +178,20 @@ fn one_less(requests: usize) -> usize
 
 // Every request of a scan found a device but for the one that ended it, so the answer tells how many
 // were heard.
-pub fn scanned_for_c(x: Scanned) -> MoorScanned
+pub fn scanned_for_c(x: Result<Scanned, Refusal>) -> MoorScanned
     ensures { result ≡ scanned_for_c x (found_by x) }
 {
     match x {
-        Scanned::Complete { requests, skipped } => {
+        Ok(Scanned::Complete { requests, skipped }) => {
             scan_ended(COMPLETE, requests, one_less(requests), skipped)
         }
-        Scanned::Nobody { requests, skipped } => {
+        Ok(Scanned::Nobody { requests, skipped }) => {
             scan_ended(NOBODY, requests, one_less(requests), skipped)
         }
-        Scanned::Unfinished { requests, skipped } => {
+        Ok(Scanned::Unfinished { requests, skipped }) => {
             scan_ended(UNFINISHED, requests, requests, skipped)
         }
-        Scanned::Refused(why) => MoorScanned {
+        Err(why) => MoorScanned {
             number: why.number,
             end: 0,
             place: why.place,

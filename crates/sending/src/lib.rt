@@ -4,7 +4,6 @@
 
 ghost use Rattle.std.specs.Prelude.{◌≡◌, ◌++◌, ◌+◌, ◌<◌, ◌≤◌, length, take};
 ghost use mathlib.Mathlib.Logic.Function.Defs.{id};
-ghost use Rattle.refusal.specs.Number.{at_place};
 ghost use Rattle.refusal.specs.Output.{bytes, fitting, Wrote};
 ghost use Rattle.escapes.specs.Escape.{expanded};
 ghost use Rattle.telegram.specs.Telegram.{command_head, command_room, longest};
@@ -14,7 +13,7 @@ use addresses::{is_initiator, is_reserved};
 use checkbyte::ebus_check;
 use escapes::expand;
 use lists::put;
-use refusal::{DESTINATION_WRONG, LENGTH_OVER, Refusal, SOURCE_WRONG, Written};
+use refusal::{DESTINATION_WRONG, LENGTH_OVER, Refusal, SOURCE_WRONG, refused};
 use telegram::{COMMAND_HEAD, COMMAND_ROOM, LONGEST, REPLY_HEAD};
 
 // The first n bytes of a head, and the data behind them.
@@ -28,7 +27,7 @@ fn with_data(head: [u8; COMMAND_ROOM], n: usize, payload: &[u8]) -> [u8; COMMAND
 }
 
 // The first n bytes with their check byte, expanded.
-fn send(body: [u8; COMMAND_ROOM], n: usize, out: &mut [u8]) -> Written
+fn send(body: [u8; COMMAND_ROOM], n: usize, out: &mut [u8]) -> Result<usize, Refusal>
     requires { n < command_room }
     ensures { Wrote id (fitting (length out.old) (bytes (expanded (closed (take n body))))) result out.old out.new }
 {
@@ -36,13 +35,6 @@ fn send(body: [u8; COMMAND_ROOM], n: usize, out: &mut [u8]) -> Written
     telegram[n] = ebus_check(&body[..n]);
     let end = n + 1;
     expand(&telegram[..end], out)
-}
-
-// A refusal, which writing always places at 0.
-fn refused(number: u8) -> Written
-    ensures { result ≡ Written.Refused (at_place number 0) }
-{
-    Written::Refused(Refusal { number, place: 0 })
 }
 
 // Writes a command: 6, 7, 8, then 1 if its exact wire length exceeds the output. The output starts
@@ -54,18 +46,18 @@ pub fn write_command(
     secondary: u8,
     payload: &[u8],
     out: &mut [u8],
-) -> Written
+) -> Result<usize, Refusal>
     ensures { Wrote id (fitting (length out.old) (command_output source destination primary secondary payload.now)) result out.old out.new }
 {
     if !is_initiator(source) {
-        return refused(SOURCE_WRONG);
+        return refused(SOURCE_WRONG, 0);
     }
     if is_reserved(destination) {
-        return refused(DESTINATION_WRONG);
+        return refused(DESTINATION_WRONG, 0);
     }
     let n = payload.len();
     if LONGEST < n {
-        return refused(LENGTH_OVER);
+        return refused(LENGTH_OVER, 0);
     }
     let mut head = [0u8; COMMAND_ROOM];
     head[0] = source;
@@ -82,12 +74,12 @@ pub fn write_command(
 
 // Writes a reply: 8, then 1 if its exact wire length exceeds the output. The output starts with the
 // raw bytes and keeps the rest; on a refusal it is as it was.
-pub fn write_reply(payload: &[u8], out: &mut [u8]) -> Written
+pub fn write_reply(payload: &[u8], out: &mut [u8]) -> Result<usize, Refusal>
     ensures { Wrote id (fitting (length out.old) (reply_output payload.now)) result out.old out.new }
 {
     let n = payload.len();
     if LONGEST < n {
-        return refused(LENGTH_OVER);
+        return refused(LENGTH_OVER, 0);
     }
     let mut head = [0u8; COMMAND_ROOM];
     head[0] = n as u8;

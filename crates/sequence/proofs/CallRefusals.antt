@@ -1,9 +1,9 @@
 -- Which calls are refused, that a refused one changes nothing, and what one that is not refused gives.
 -- Assumes nothing.
+use Rattle.std.specs.Prelude.{Option, Some, None, Result, Ok, Err}
 use mathlib.Core.Path.{◌≡◌, refl, sym, ap, ◌∙◌}
 use mathlib.Core.Bool.{Bool, true}
 use mathlib.Core.List.{List, [], ◌∷◌}
-use mathlib.Core.Option.{Option, some, none}
 use Prim.Native.Nat.{ℕ, ◌≤◌, ◌<◌, min}
 use native.Mathlib.Omega.{arith}
 use lib.Dec.{ltb}
@@ -15,37 +15,27 @@ use Rattle.refusal.specs.Number.{output_short, at_place}
 use Rattle.refusal.specs.declared.Refusal.{Refusal}
 use Rattle.requests.specs.declared.Request.{Request}
 use Rattle.requests.specs.declared.Request.TheVariants.{Start}
-use Rattle.requests.specs.declared.RequestRead.{RequestRead}
-use Rattle.requests.specs.declared.RequestRead.TheVariants.{Asked, Refused as RequestRefused}
 use Rattle.table.specs.Table.{Table, devices, valid}
-use Rattle.turns.specs.Request.{Turn, respond}
-use Rattle.devices.specs.Calls.{Answering, answer_room, refusing, response_to, answering, reading, ask_call}
-use Rattle.devices.specs.WholeScan.{scan_from, closed_by, fill_heard, closing, Scanning, concluded, scan_refusing, scan_call}
-use Rattle.turns.specs.declared.Answer.{Answer}
-use Rattle.turns.specs.declared.Answer.TheVariants.{Silence, Found, End}
+use Rattle.devices.specs.Calls.{Answering, answer_room, refusing, answering, reading, ask_call}
+use Rattle.devices.specs.WholeScan.{scan_from, Scanning, concluded, scan_refusing, scan_call}
 use Rattle.guard.proofs.GuardCases.{guard_short, guard_passes}
 use Rattle.devices.proofs.CallCases.{ask_refused, ask_passed, scan_refused, scan_passed}
-use Rattle.sequence.specs.Calls.{Call, ask, scan, step, table_of, turns_of, lent, lent_after, refusal_in, scan_refusal_in, refusal_of, short_or, reader_refusal, refusal_due}
+use Rattle.sequence.specs.Calls.{Call, ask, scan, step, table_of, turns_of, lent, lent_after, refusal_in, refusal_of, short_or, reader_refusal, refusal_due}
 
 -- ---- which calls are refused
 
-answer_not_refused : (answer : Answer) → refusal_in (response_to answer) ≡ none
-answer_not_refused Silence = refl
-answer_not_refused (Found d s a) = refl
-answer_not_refused (End d) = refl
-
-reading_due : (read : RequestRead) (buffer : List ℕ) (t : Table) → refusal_in (reading read buffer t).response ≡ reader_refusal read
+reading_due : (read : Result Request Refusal) (buffer : List ℕ) (t : Table) → refusal_in (reading read buffer t).response ≡ reader_refusal read
 unfolding answering
-reading_due (Asked request) buffer t = answer_not_refused (respond request t).answer
-reading_due (RequestRefused why) buffer t = refl
+reading_due (Ok request) buffer t = refl
+reading_due (Err why) buffer t = refl
 
-short_is : (needed room : ℕ) (otherwise : Option Refusal) → room < needed → short_or needed room otherwise ≡ some (at_place output_short 0)
-short_is needed room otherwise h = ap (λ (b : Bool). pick b (some (at_place output_short 0)) otherwise) (lt-ltb room needed h)
+short_is : (needed room : ℕ) (otherwise : Option Refusal) → room < needed → short_or needed room otherwise ≡ Some (at_place output_short 0)
+short_is needed room otherwise h = ap (λ (b : Bool). pick b (Some (at_place output_short 0)) otherwise) (lt-ltb room needed h)
 
 enough_is : (needed room : ℕ) (otherwise : Option Refusal) → needed ≤ room → short_or needed room otherwise ≡ otherwise
-enough_is needed room otherwise h = ap (λ (b : Bool). pick b (some (at_place output_short 0)) otherwise) (le-ltb room needed h)
+enough_is needed room otherwise h = ap (λ (b : Bool). pick b (Some (at_place output_short 0)) otherwise) (le-ltb room needed h)
 
-module _ (read : RequestRead) (buffer : List ℕ) (t : Table) (v : valid t ≡ true) where
+module _ (read : Result Request Refusal) (buffer : List ℕ) (t : Table) (v : valid t ≡ true) where
   ask_short : length buffer < answer_room → ask_call read buffer t ≡ refusing (at_place output_short 0) buffer t
   ask_short h = ask_refused read buffer t (at_place output_short 0) (guard_short answer_room (length buffer) (valid t) h)
 
@@ -60,17 +50,6 @@ module _ (read : RequestRead) (buffer : List ℕ) (t : Table) (v : valid t ≡ t
       (λ e. let h = ltb-false (length buffer) answer_room e in
       ap (λ (a : Answering). refusal_in a.response) (ask_enough h) ∙ reading_due read buffer t ∙ sym (enough_is answer_room (length buffer) (reader_refusal read) h))
 
--- a scan that was made is not refused
-closing_not_refused : (turns : List Turn) (n f : ℕ) → scan_refusal_in (closing turns n f) ≡ none
-unfolding closing
-closing_not_refused [] n f = refl
-closing_not_refused (turn ∷ turns) n f = go turn.answer (closing_not_refused turns n f)
-  where
-    go : (answer : Answer) → scan_refusal_in (closing turns n f) ≡ none → scan_refusal_in (closed_by answer (closing turns) n f) ≡ none
-    go (Found d s a) h = h
-    go (End d) h = refl
-    go Silence h = refl
-
 module _ (cap : ℕ) (serials addresses : List ℕ) (t : Table) (v : valid t ≡ true) where
   scan_short : min (length serials) (length addresses) < devices t → scan_call cap serials addresses t ≡ scan_refusing (at_place output_short 0) serials addresses t
   scan_short h = scan_refused cap serials addresses t (at_place output_short 0) (guard_short (devices t) (min (length serials) (length addresses)) (valid t) h)
@@ -78,15 +57,14 @@ module _ (cap : ℕ) (serials addresses : List ℕ) (t : Table) (v : valid t ≡
   pub scan_enough : devices t ≤ min (length serials) (length addresses) → scan_call cap serials addresses t ≡ concluded serials addresses t (scan_from cap Start t)
   scan_enough h = scan_passed cap serials addresses t (guard_passes (devices t) (min (length serials) (length addresses)) (valid t) h v)
 
-  scan_due : scan_refusal_in (scan_call cap serials addresses t).scanned ≡ short_or (devices t) (min (length serials) (length addresses)) none
+  scan_due : refusal_in (scan_call cap serials addresses t).scanned ≡ short_or (devices t) (min (length serials) (length addresses)) None
   scan_due =
       by_test (ltb (min (length serials) (length addresses)) (devices t))
       (λ e. let h = ltb-true (min (length serials) (length addresses)) (devices t) e in
-      ap (λ (s : Scanning). scan_refusal_in s.scanned) (scan_short h) ∙ sym (short_is (devices t) (min (length serials) (length addresses)) none h))
+      ap (λ (s : Scanning). refusal_in s.scanned) (scan_short h) ∙ sym (short_is (devices t) (min (length serials) (length addresses)) None h))
       (λ e. let h = ltb-false (min (length serials) (length addresses)) (devices t) e in
-      ap (λ (s : Scanning). scan_refusal_in s.scanned) (scan_enough h)
-      ∙ closing_not_refused (scan_from cap Start t) (length (scan_from cap Start t)) (fill_heard (scan_from cap Start t))
-      ∙ sym (enough_is (devices t) (min (length serials) (length addresses)) none h))
+      ap (λ (s : Scanning). refusal_in s.scanned) (scan_enough h)
+      ∙ sym (enough_is (devices t) (min (length serials) (length addresses)) None h))
 
 pub refusals_due : (call : Call) (t : Table) → valid t ≡ true → refusal_of (step call t) ≡ refusal_due (devices t) call
 refusals_due (ask read buffer) t v = ask_due read buffer t v
@@ -98,11 +76,11 @@ refusing_unchanged : (a : Answering) (why : Refusal) (buffer : List ℕ) (t : Ta
     → (a.turns ≡ []) × (◌≡◌ {A = List (List ℕ)} (a.buffer ∷ []) (buffer ∷ [])) × (a.table ≡ t)
 refusing_unchanged a why buffer t e = (ap (λ (x : Answering). x.turns) e, ap (λ (x : Answering). x.buffer ∷ []) e, ap (λ (x : Answering). x.table) e)
 
-unread : (read : RequestRead) (buffer : List ℕ) (t : Table) (why : Refusal) → reader_refusal read ≡ some why → reading read buffer t ≡ refusing why buffer t
-unread (Asked request) buffer t why e = let z : ◌≡◌ {A = ℕ} 0 1 = cc in absurd (let w : ⊥ = omega arith in w)
-unread (RequestRefused reason) buffer t why e = let same : reason ≡ why = cc in ap (λ (x : Refusal). refusing x buffer t) same
+unread : (read : Result Request Refusal) (buffer : List ℕ) (t : Table) (why : Refusal) → reader_refusal read ≡ Some why → reading read buffer t ≡ refusing why buffer t
+unread (Ok request) buffer t why e = let z : ◌≡◌ {A = ℕ} 0 1 = cc in absurd (let w : ⊥ = omega arith in w)
+unread (Err reason) buffer t why e = let same : reason ≡ why = cc in ap (λ (x : Refusal). refusing x buffer t) same
 
-ask_unchanged : (read : RequestRead) (buffer : List ℕ) (t : Table) → valid t ≡ true → (why : Refusal) → short_or answer_room (length buffer) (reader_refusal read) ≡ some why
+ask_unchanged : (read : Result Request Refusal) (buffer : List ℕ) (t : Table) → valid t ≡ true → (why : Refusal) → short_or answer_room (length buffer) (reader_refusal read) ≡ Some why
     → ((ask_call read buffer t).turns ≡ []) × (◌≡◌ {A = List (List ℕ)} ((ask_call read buffer t).buffer ∷ []) (buffer ∷ [])) × ((ask_call read buffer t).table ≡ t)
 ask_unchanged read buffer t v why due =
     by_test (ltb (length buffer) answer_room)
@@ -111,7 +89,7 @@ ask_unchanged read buffer t v why due =
     refusing_unchanged (ask_call read buffer t) why buffer t
     (ask_enough read buffer t v h ∙ unread read buffer t why (sym (enough_is answer_room (length buffer) (reader_refusal read) h) ∙ due)))
 
-pub refused_unchanged : (call : Call) (t : Table) → valid t ≡ true → (why : Refusal) → refusal_due (devices t) call ≡ some why
+pub refused_unchanged : (call : Call) (t : Table) → valid t ≡ true → (why : Refusal) → refusal_due (devices t) call ≡ Some why
     → (turns_of (step call t) ≡ []) × (lent_after (step call t) ≡ lent call) × (table_of (step call t) ≡ t)
 refused_unchanged (ask read buffer) t v why due = ask_unchanged read buffer t v why due
 refused_unchanged (scan cap serials addresses) t v why due =
@@ -119,23 +97,23 @@ refused_unchanged (scan cap serials addresses) t v why due =
     (λ e. let eq = scan_short cap serials addresses t v (ltb-true (min (length serials) (length addresses)) (devices t) e) in
     (ap (λ (s : Scanning). s.turns) eq, ap (λ (s : Scanning). s.serials ∷ s.addresses ∷ []) eq, ap (λ (s : Scanning). s.table) eq))
     (λ e. let h = ltb-false (min (length serials) (length addresses)) (devices t) e in
-    let clash : none ≡ some why = sym (enough_is (devices t) (min (length serials) (length addresses)) none h) ∙ due in
+    let clash : None ≡ Some why = sym (enough_is (devices t) (min (length serials) (length addresses)) None h) ∙ due in
     let z : ◌≡◌ {A = ℕ} 0 1 = cc in absurd (let w : ⊥ = omega arith in w))
 
 -- ---- one that is not refused
 
-not_short : (needed room : ℕ) (otherwise : Option Refusal) → short_or needed room otherwise ≡ none → needed ≤ room
+not_short : (needed room : ℕ) (otherwise : Option Refusal) → short_or needed room otherwise ≡ None → needed ≤ room
 not_short needed room otherwise due =
     by_test (ltb room needed)
-    (λ e. let clash : some (at_place output_short 0) ≡ none = sym (short_is needed room otherwise (ltb-true room needed e)) ∙ due in
+    (λ e. let clash : Some (at_place output_short 0) ≡ None = sym (short_is needed room otherwise (ltb-true room needed e)) ∙ due in
     let z : ◌≡◌ {A = ℕ} 0 1 = cc in absurd (let w : ⊥ = omega arith in w))
     (λ e. ltb-false room needed e)
 
 -- the one request that it reads as is made
-pub ask_answers : (read : RequestRead) (request : Request) (buffer : List ℕ) (t : Table) → valid t ≡ true → read ≡ Asked request
-    → short_or answer_room (length buffer) (reader_refusal read) ≡ none → ask_call read buffer t ≡ answering request buffer t
+pub ask_answers : (read : Result Request Refusal) (request : Request) (buffer : List ℕ) (t : Table) → valid t ≡ true → read ≡ Ok request
+    → short_or answer_room (length buffer) (reader_refusal read) ≡ None → ask_call read buffer t ≡ answering request buffer t
 ask_answers read request buffer t v e due =
-    ask_enough read buffer t v (not_short answer_room (length buffer) (reader_refusal read) due) ∙ ap (λ (r : RequestRead). reading r buffer t) e
+    ask_enough read buffer t v (not_short answer_room (length buffer) (reader_refusal read) due) ∙ ap (λ (r : Result Request Refusal). reading r buffer t) e
 
-pub scan_room : (cap : ℕ) (serials addresses : List ℕ) (n : ℕ) → refusal_due n (scan cap serials addresses) ≡ none → n ≤ min (length serials) (length addresses)
-scan_room cap serials addresses n due = not_short n (min (length serials) (length addresses)) none due
+pub scan_room : (cap : ℕ) (serials addresses : List ℕ) (n : ℕ) → refusal_due n (scan cap serials addresses) ≡ None → n ≤ min (length serials) (length addresses)
+scan_room cap serials addresses n due = not_short n (min (length serials) (length addresses)) None due

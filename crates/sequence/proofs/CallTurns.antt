@@ -1,13 +1,13 @@
 -- The turns that calls make: every request of any list of calls is the one operation on the table that those before it left.
 -- Assumes nothing.
+use Rattle.std.specs.Prelude.{Result, Ok, Err}
+use Rattle.refusal.specs.declared.Refusal.{Refusal}
 use mathlib.Core.Path.{refl, sym, subst}
 use mathlib.Core.List.{List, [], ◌∷◌, ◌++◌}
 use Prim.Native.Nat.{ℕ, zero, suc, min}
 use lib.ListN.{length}
 use Rattle.requests.specs.declared.Request.{Request}
 use Rattle.requests.specs.declared.Request.TheVariants.{Start, Continue}
-use Rattle.requests.specs.declared.RequestRead.{RequestRead}
-use Rattle.requests.specs.declared.RequestRead.TheVariants.{Asked, Refused as RequestRefused}
 use Rattle.table.specs.Table.{Table, devices, valid}
 use Rattle.turns.specs.Request.{Turn, respond}
 use Rattle.guard.specs.Guard.{guard}
@@ -15,8 +15,6 @@ use Rattle.devices.specs.Calls.{answer_room, answering, reading, behind, ask_cal
 use Rattle.devices.specs.WholeScan.{onward, scan_from, left_by, scan_behind, scan_call}
 use Rattle.turns.specs.declared.Answer.{Answer}
 use Rattle.turns.specs.declared.Answer.TheVariants.{Silence, Found, End}
-use Rattle.guard.specs.declared.Guard.{Guard}
-use Rattle.guard.specs.declared.Guard.TheVariants.{Passed, Refused}
 use Rattle.sequence.specs.Calls.{Call, ask, scan, step, table_of, turns_of, after, history, Linked}
 
 -- no turn, and turns put together
@@ -31,14 +29,14 @@ joined (x ∷ xs) ys first middle last h rest = (h.0, joined xs ys x.table middl
 
 -- ---- a request as it was read
 
-reading_made : (read : RequestRead) (buffer : List ℕ) (t : Table) → Linked t (reading read buffer t).turns (reading read buffer t).table
+reading_made : (read : Result Request Refusal) (buffer : List ℕ) (t : Table) → Linked t (reading read buffer t).turns (reading read buffer t).table
 unfolding Linked answering respond
-reading_made (Asked request) buffer t = (refl, refl)
-reading_made (RequestRefused why) buffer t = refl
+reading_made (Ok request) buffer t = (refl, refl)
+reading_made (Err why) buffer t = refl
 
-behind_made : (g : Guard) (read : RequestRead) (buffer : List ℕ) (t : Table) → Linked t (behind g read buffer t).turns (behind g read buffer t).table
-behind_made Passed read buffer t = reading_made read buffer t
-behind_made (Refused why) read buffer t = none_made t
+behind_made : (g : Result (Unit {0}) Refusal) (read : Result Request Refusal) (buffer : List ℕ) (t : Table) → Linked t (behind g read buffer t).turns (behind g read buffer t).table
+behind_made (Ok tt) read buffer t = reading_made read buffer t
+behind_made (Err why) read buffer t = none_made t
 
 -- ---- a whole scan
 
@@ -54,10 +52,10 @@ scan_made zero request t = refl
 scan_made (suc k) request t =
     (refl, onward_made (respond request t).answer (scan_from k Continue (respond request t).table) (respond request t).table (scan_made k Continue (respond request t).table))
 
-scan_behind_made : (g : Guard) (cap : ℕ) (serials addresses : List ℕ) (t : Table)
+scan_behind_made : (g : Result (Unit {0}) Refusal) (cap : ℕ) (serials addresses : List ℕ) (t : Table)
     → Linked t (scan_behind g cap serials addresses t).turns (scan_behind g cap serials addresses t).table
-scan_behind_made Passed cap serials addresses t = scan_made cap Start t
-scan_behind_made (Refused why) cap serials addresses t = none_made t
+scan_behind_made (Ok tt) cap serials addresses t = scan_made cap Start t
+scan_behind_made (Err why) cap serials addresses t = none_made t
 
 -- ---- any list of calls
 

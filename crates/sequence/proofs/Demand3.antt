@@ -1,22 +1,20 @@
 -- Demand 3, proved: what holds between requests is carried over any list of calls, and each line of the statement is read
 -- off it.
 -- Assumes nothing.
+use Rattle.std.specs.Prelude.{Some, None, Result, Ok}
+use Rattle.refusal.specs.declared.Refusal.{Refusal}
 use mathlib.Core.Path.{◌≡◌, refl, ap, ◌∙◌, sym, subst}
 use mathlib.Core.Bool.{true}
 use mathlib.Core.List.{List, [], ◌∷◌, ◌++◌}
-use mathlib.Core.Option.{none}
 use Prim.Native.Nat.{ℕ, ◌<◌}
 use native.Mathlib.Omega.{arith}
 use lib.ListN.{length, get_or}
 use Rattle.requests.specs.declared.Request.{Request}
-use Rattle.requests.specs.declared.RequestRead.{RequestRead}
-use Rattle.requests.specs.declared.RequestRead.TheVariants.{Asked}
 use Rattle.table.specs.Table.{Table, devices, valid}
 use Rattle.turns.specs.Request.{Turn, standing, respond}
 use Rattle.devices.specs.Calls.{Answering, answer_bytes, response_to, answering, ask_call}
 use Rattle.turns.specs.Rank.{rank}
 use Rattle.turns.specs.declared.Answer.{Answer}
-use Rattle.devices.specs.declared.Response.TheVariants.{Answered}
 use Rattle.table.proofs.Meaning.{tested}
 use Rattle.turns.proofs.TurnCases.{by_contest}
 use Rattle.turns.proofs.TurnKeeps.{standing_devices}
@@ -31,10 +29,10 @@ use Rattle.sequence.proofs.CallRefusals.{refusals_due, refused_unchanged, ask_an
 use Rattle.sequence.proofs.WholeScans.{scan_is}
 
 -- somebody always answers
-not_silent : (request : Request) (t : Table) → 0 < devices t → response_to (respond request t).answer ≡ Answered (length (answer_bytes (respond request t).answer))
+not_silent : (request : Request) (t : Table) → 0 < devices t → response_to (respond request t).answer ≡ Some (length (answer_bytes (respond request t).answer))
 unfolding respond
 not_silent request t somebody =
-    by_contest (λ (a : Answer). response_to a ≡ Answered (length (answer_bytes a))) (standing request t)
+    by_contest (λ (a : Answer). response_to a ≡ Some (length (answer_bytes a))) (standing request t)
     (λ none. let z : ⊥ = omega (arith, standing_devices request t) in absurd z) (λ s e. refl) (λ s e. refl)
 
 module _ (t : Table) (v : valid t ≡ true) (somebody : 0 < devices t) (calls : List Call) where
@@ -54,7 +52,7 @@ module _ (t : Table) (v : valid t ≡ true) (somebody : 0 < devices t) (calls : 
   same_devices : devices (after calls t) ≡ devices t
   same_devices = ap devices goes.columns_stay
 
-  answers_hold : (read : RequestRead) (request : Request) (buffer : List ℕ) → read ≡ Asked request → refusal_due (devices t) (ask read buffer) ≡ none
+  answers_hold : (read : Result Request Refusal) (request : Request) (buffer : List ℕ) → read ≡ Ok request → refusal_due (devices t) (ask read buffer) ≡ None
       → AskDue (after calls t) (counted (since_start 0 (history calls t)) request) request buffer (ask_call read buffer (after calls t))
   unfolding answering
   answers_hold read request buffer asks due =
@@ -62,7 +60,7 @@ module _ (t : Table) (v : valid t ≡ true) (somebody : 0 < devices t) (calls : 
       record {
         made = ap (λ (a : Answering). a.turns) is;
         holds = ap (λ (a : Answering). a.buffer) is;
-        answered = ap (λ (a : Answering). a.response) is ∙ not_silent request (after calls t) (omega (arith, same_devices));
+        answered = ap (λ (a : Answering). a.response) is ∙ ap Ok (not_silent request (after calls t) (omega (arith, same_devices)));
         due = next_due t v somebody (since_start 0 (history calls t)) (after calls t) (named [] (history calls t)) request goes;
       }
 

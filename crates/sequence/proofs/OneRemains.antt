@@ -1,5 +1,6 @@
 -- No two devices remain after the last window: their keys differ. The one that does answers.
 -- Assumes nothing.
+use Rattle.std.specs.Prelude.{Ok}
 use mathlib.Core.Path.{◌≡◌, refl, sym, ap, ap₂, ◌∙◌, subst}
 use mathlib.Core.Bool.{Bool, true, false}
 use mathlib.Core.List.{List, [], ◌∷◌, ◌++◌}
@@ -86,7 +87,7 @@ module _ (t : Table) (v : valid t ≡ true) (somebody : 0 < devices t) where
 
   -- .. and what is read from them
   either_read : (b : Bool) (d serial address : ℕ) → d ≤ most_fill → serial < serial_limit
-      → read_answer (answer_bytes (pick b (Found d serial address) (End d))) ≡ pick b (FoundRead d serial address) (EndRead d)
+      → read_answer (answer_bytes (pick b (Found d serial address) (End d))) ≡ Ok (pick b (FoundRead d serial address) (EndRead d))
   unfolding answer_bytes
   either_read true d serial address few below = found_read_back d serial address few below
   either_read false d serial address few below = end_read_back d few

@@ -1,5 +1,6 @@
 -- Turns one after the other: each is answered as is due to its number, whoever makes the request.
 -- Assumes nothing.
+use Rattle.std.specs.Prelude.{Ok}
 use mathlib.Core.Path.{◌≡◌, refl, sym, ap, ◌∙◌, subst}
 use mathlib.Core.Logic.{⊎_elim}
 use mathlib.Core.Bool.{true}
@@ -43,7 +44,7 @@ snoc_last l a k e = ap (λ (n : ℕ). get_or (l ++ a ∷ []) n 0) e ∙ get_or-a
 
 module _ (t : Table) (answer : Answer) (place : ℕ) (inside : place < devices t) where
   pub found_read : valid t ≡ true → answer ≡ Found (zero_bits windows (key 0 (serial_at t place))) (serial_at t place) (address_at t place)
-      → read_answer (answer_bytes answer) ≡ FoundRead (zero_bits windows (key 0 (serial_at t place))) (serial_at t place) (address_at t place)
+      → read_answer (answer_bytes answer) ≡ Ok (FoundRead (zero_bits windows (key 0 (serial_at t place))) (serial_at t place) (address_at t place))
   unfolding answer_bytes
   found_read v e =
       ap (λ (a : Answer). read_answer (answer_bytes a)) e
@@ -63,7 +64,7 @@ module _ (t : Table) (answer : Answer) (place : ℕ) (inside : place < devices t
         read = found_read v e;
       }
 
-  pub end_read : answer ≡ End (zero_bits windows (key 1 (serial_at t place))) → read_answer (answer_bytes answer) ≡ EndRead (zero_bits windows (key 1 (serial_at t place)))
+  pub end_read : answer ≡ End (zero_bits windows (key 1 (serial_at t place))) → read_answer (answer_bytes answer) ≡ Ok (EndRead (zero_bits windows (key 1 (serial_at t place))))
   unfolding answer_bytes
   end_read e =
       ap (λ (a : Answer). read_answer (answer_bytes a)) e

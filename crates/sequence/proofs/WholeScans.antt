@@ -1,10 +1,11 @@
 -- A whole scan on any table: how many requests it sends, what it hears, and how it ends.
 -- Assumes nothing.
+use Rattle.std.specs.Prelude.{None, Result, Ok}
+use Rattle.refusal.specs.declared.Refusal.{Refusal}
 use mathlib.Core.Path.{◌≡◌, refl, sym, ap, ap₂, ◌∙◌, subst}
 use mathlib.Core.Logic.{⊎_elim}
 use mathlib.Core.Bool.{Bool, true, false}
 use mathlib.Core.List.{List, [], ◌∷◌, ◌++◌, map}
-use mathlib.Core.Option.{none}
 use Prim.Native.Nat.{ℕ, zero, suc, ◌+◌, ◌-◌, ◌*◌, ◌≤◌, ◌<◌, min}
 use native.Mathlib.Nat.{sub-zero}
 use native.Mathlib.Omega.{arith}
@@ -49,8 +50,8 @@ Entry t serials addresses j k =
     (place : ℕ) × (place < devices t) × (rank t place ≡ k) × (get_or serials j 0 ≡ serial_at t place) × (get_or addresses j 0 ≡ address_at t place)
 
 -- what is read from the answer to request j, behind so many FF, where so many devices are left
-abbrev Read : ℕ → List ℕ → List ℕ → ℕ → ℕ → AnswerRead
-Read d serials addresses j left = pick (ltb j left) (FoundRead d (get_or serials j 0) (get_or addresses j 0)) (EndRead d)
+abbrev Read : ℕ → List ℕ → List ℕ → ℕ → ℕ → Result AnswerRead Refusal
+Read d serials addresses j left = Ok (pick (ltb j left) (FoundRead d (get_or serials j 0) (get_or addresses j 0)) (EndRead d))
 
 -- a scan from here on, with k devices named before and so many requests left under the cap
 record Scans (t : Table) (cap k : ℕ) (turns : List Turn) : Type 0 where
@@ -150,7 +151,7 @@ module _ (t : Table) (v₀ : valid t ≡ true) (somebody : 0 < devices t) where
   module _ (cap k : ℕ) (turn : Turn) where
     -- a device answers, and the scan goes on
     found_first : (place d : ℕ) (later : List Turn) → k < devices t → place < devices t → rank t place ≡ k
-        → read_answer (answer_bytes (Found d (serial_at t place) (address_at t place))) ≡ FoundRead d (serial_at t place) (address_at t place)
+        → read_answer (answer_bytes (Found d (serial_at t place) (address_at t place))) ≡ Ok (FoundRead d (serial_at t place) (address_at t place))
         → Scans t cap (suc k) later → Scans t (suc cap) k (answered turn (Found d (serial_at t place) (address_at t place)) ∷ later)
     unfolding serials_heard addresses_heard closing
     found_first place d later left inside r reads s =
@@ -175,16 +176,16 @@ module _ (t : Table) (v₀ : valid t ≡ true) (somebody : 0 < devices t) where
         each [] following x same =
             let here : answered turn (Found d (serial_at t place) (address_at t place)) ≡ x = cc in
             ap (λ (y : Turn). read_answer (answer_bytes y.answer)) (sym here) ∙ reads
-            ∙ ap (λ (b : Bool). pick b (FoundRead d (serial_at t place) (address_at t place)) (EndRead d)) (sym (lt-ltb 0 (devices t - k) (omega arith)))
+            ∙ ap (λ (b : Bool). Ok (pick b (FoundRead d (serial_at t place) (address_at t place)) (EndRead d))) (sym (lt-ltb 0 (devices t - k) (omega arith)))
             ∙ ap (λ (y : Turn). Read (fill_of y.answer) (serial_at t place ∷ serials_heard later) (address_at t place ∷ addresses_heard later) 0 (devices t - k)) here
         each (y ∷ ys) following x same =
             let rest : later ≡ ys ++ x ∷ following = cc in
             s.read ys following x rest
-            ∙ ap (λ (b : Bool). pick b (FoundRead (fill_of x.answer) (get_or (serials_heard later) (length ys) 0) (get_or (addresses_heard later) (length ys) 0)) (EndRead (fill_of x.answer)))
+            ∙ ap (λ (b : Bool). Ok (pick b (FoundRead (fill_of x.answer) (get_or (serials_heard later) (length ys) 0) (get_or (addresses_heard later) (length ys) 0)) (EndRead (fill_of x.answer))))
             (same_test (length ys) (devices t - suc k) (suc (length ys)) (devices t - k) (λ h. omega arith) (λ h. omega arith))
 
     -- the end is heard, and the scan is over
-    end_first : (d : ℕ) → k ≡ devices t → read_answer (answer_bytes (End d)) ≡ EndRead d → Scans t (suc cap) k (answered turn (End d) ∷ [])
+    end_first : (d : ℕ) → k ≡ devices t → read_answer (answer_bytes (End d)) ≡ Ok (EndRead d) → Scans t (suc cap) k (answered turn (End d) ∷ [])
     unfolding serials_heard addresses_heard closing
     end_first d all reads =
         record {
@@ -201,7 +202,7 @@ module _ (t : Table) (v₀ : valid t ≡ true) (somebody : 0 < devices t) where
         each [] following x same =
             let here : answered turn (End d) ≡ x = cc in
             ap (λ (y : Turn). read_answer (answer_bytes y.answer)) (sym here) ∙ reads
-            ∙ ap (λ (b : Bool). pick b (FoundRead d 0 0) (EndRead d)) (sym (le-ltb 0 (devices t - k) (omega arith)))
+            ∙ ap (λ (b : Bool). Ok (pick b (FoundRead d 0 0) (EndRead d))) (sym (le-ltb 0 (devices t - k) (omega arith)))
             ∙ ap (λ (y : Turn). Read (fill_of y.answer) [] [] 0 (devices t - k)) here
         each (y ∷ []) following x same = let z : ◌≡◌ {A = ℕ} 0 1 = cc in absurd (let w : ⊥ = omega arith in w)
         each (y ∷ z ∷ zs) following x same = let w : ◌≡◌ {A = ℕ} 0 1 = cc in absurd (let u : ⊥ = omega arith in u)
@@ -307,8 +308,10 @@ module _ (t : Table) (v₀ : valid t ≡ true) (somebody : 0 < devices t) where
         requests = requests_are now n cap sent;
         sent = sent;
         counts = counts_are now n cap sent;
-        scanned = ap (closing turns (length turns)) (all_counted turns each) ∙ s.closes (length turns) f
-            ∙ ap (λ (x : ℕ). pick (ltb x cap) (Complete (length turns) f) (Unfinished (length turns) f)) (sub-zero n) ∙ count_of cap n (length turns) f sent;
+        scanned =
+            ap Ok
+            (ap (closing turns (length turns)) (all_counted turns each) ∙ s.closes (length turns) f
+            ∙ ap (λ (x : ℕ). pick (ltb x cap) (Complete (length turns) f) (Unfinished (length turns) f)) (sub-zero n) ∙ count_of cap n (length turns) f sent);
         skipped_most = over_most turns;
         names = heard;
         entries = λ k h.
@@ -327,12 +330,12 @@ module _ (t : Table) (v₀ : valid t ≡ true) (somebody : 0 < devices t) where
             let l = ltb-true (length earlier) n less in
             let made : length earlier < length turns = omega (arith, ap length same, length-append earlier (turn ∷ later)) in
             let h : length earlier < min cap n = omega arith in
-            ap (λ (b : Bool). pick b (FoundRead d (get_or (serials_heard turns) (length earlier) 0) (get_or (addresses_heard turns) (length earlier) 0)) (EndRead d)) less
-            ∙ ap₂ (FoundRead d) (sym (first_of (serials_heard turns) serials (min cap n) (length earlier) heard h)) (sym (first_of (addresses_heard turns) addresses (min cap n) (length earlier) beside h))
-            ∙ ap (λ (b : Bool). pick b (FoundRead d (get_or (starting (serials_heard turns) serials) (length earlier) 0) (get_or (starting (addresses_heard turns) addresses) (length earlier) 0)) (EndRead d)) (sym less))
+            ap (λ (b : Bool). Ok (pick b (FoundRead d (get_or (serials_heard turns) (length earlier) 0) (get_or (addresses_heard turns) (length earlier) 0)) (EndRead d))) less
+            ∙ ap₂ (λ (x : ℕ) (y : ℕ). Ok (FoundRead d x y)) (sym (first_of (serials_heard turns) serials (min cap n) (length earlier) heard h)) (sym (first_of (addresses_heard turns) addresses (min cap n) (length earlier) beside h))
+            ∙ ap (λ (b : Bool). Ok (pick b (FoundRead d (get_or (starting (serials_heard turns) serials) (length earlier) 0) (get_or (starting (addresses_heard turns) addresses) (length earlier) 0)) (EndRead d))) (sym less))
             (λ over.
-            ap (λ (b : Bool). pick b (FoundRead d (get_or (serials_heard turns) (length earlier) 0) (get_or (addresses_heard turns) (length earlier) 0)) (EndRead d)) over
-            ∙ ap (λ (b : Bool). pick b (FoundRead d (get_or (starting (serials_heard turns) serials) (length earlier) 0) (get_or (starting (addresses_heard turns) addresses) (length earlier) 0)) (EndRead d)) (sym over));
+            ap (λ (b : Bool). Ok (pick b (FoundRead d (get_or (serials_heard turns) (length earlier) 0) (get_or (addresses_heard turns) (length earlier) 0)) (EndRead d))) over
+            ∙ ap (λ (b : Bool). Ok (pick b (FoundRead d (get_or (starting (serials_heard turns) serials) (length earlier) 0) (get_or (starting (addresses_heard turns) addresses) (length earlier) 0)) (EndRead d))) (sym over));
       }
 
   -- what is due depends on serials and addresses alone, so it is due on the table that the scan met
@@ -356,7 +359,7 @@ module _ (t : Table) (v₀ : valid t ≡ true) (somebody : 0 < devices t) where
       })
 
   pub scan_is : (cap : ℕ) (serials addresses : List ℕ) (now : Table) → now ≡ marked t now.marks → valid now ≡ true
-      → refusal_due (devices t) (scan cap serials addresses) ≡ none → ScanDue now cap serials addresses (scan_call cap serials addresses now)
+      → refusal_due (devices t) (scan cap serials addresses) ≡ None → ScanDue now cap serials addresses (scan_call cap serials addresses now)
   scan_is cap serials addresses now columns_stay v due =
       let size : length now.marks ≡ devices now = (tested now v).marks_long in
       let same : devices now ≡ devices t = ap devices columns_stay in

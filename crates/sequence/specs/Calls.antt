@@ -1,38 +1,31 @@
 -- A list of calls to the devices, made one after the other on one table: what rule D9 speaks of.
 -- Assumes nothing.
-use Rattle.std.specs.Prelude.{◌≡◌, ℕ, zero, suc, min, List, [], ◌∷◌, ◌++◌, ltb, length}
-use Rattle.std.proofs.Math.Option.{Option, some, none}
+use Rattle.std.specs.Prelude.{◌≡◌, ℕ, zero, suc, min, List, [], ◌∷◌, ◌++◌, ltb, length, Option, Some, None, Result, Ok, Err}
 use Rattle.lists.specs.Choice.{pick}
 use Rattle.refusal.specs.Number.{output_short, at_place}
 use Rattle.refusal.specs.declared.Refusal.{Refusal}
 use Rattle.requests.specs.Reading.{read_request}
 use Rattle.requests.specs.declared.Request.{Request}
 use Rattle.requests.specs.declared.Request.TheVariants.{Start, Continue}
-use Rattle.requests.specs.declared.RequestRead.{RequestRead}
-use Rattle.requests.specs.declared.RequestRead.TheVariants.{Asked, Refused as RequestRefused}
 use Rattle.table.specs.Table.{Table}
 use Rattle.turns.specs.Request.{Turn, respond}
 use Rattle.devices.specs.Calls.{Answering, answer_room, ask_call}
 use Rattle.devices.specs.WholeScan.{Scanning, scan_call, serial_in}
-use Rattle.devices.specs.declared.Response.{Response}
-use Rattle.devices.specs.declared.Response.TheVariants.{Answered, Silent, Refused as ResponseRefused}
-use Rattle.devices.specs.declared.Scanned.{Scanned}
-use Rattle.devices.specs.declared.Scanned.TheVariants.{Complete, Nobody, Unfinished, Refused as ScanRefused}
 
 -- ---- a call, with all that it is lent but the table; no frame, cap or buffer is ruled out
 
 pub data Call : Type 0 where
   -- the request as it was read, and the answer buffer
-  ask : RequestRead → List ℕ → Call
+  ask : Result Request Refusal → List ℕ → Call
   -- the cap, the list for serials and the list for addresses
   scan : ℕ → List ℕ → List ℕ → Call
 
 -- a start, a continue and a raw frame offered to the devices ask what they read as
 abbrev pub start : List ℕ → Call
-start buffer = ask (Asked Start) buffer
+start buffer = ask (Ok Start) buffer
 
 abbrev pub continue : List ℕ → Call
-continue buffer = ask (Asked Continue) buffer
+continue buffer = ask (Ok Continue) buffer
 
 abbrev pub offer : List ℕ → List ℕ → Call
 offer frame buffer = ask (read_request frame) buffer
@@ -65,20 +58,13 @@ lent_after (answering a) = a.buffer ∷ []
 lent_after (scanning s) = s.serials ∷ s.addresses ∷ []
 
 -- the refusal that it gave, if any
-abbrev pub refusal_in : Response → Option Refusal
-refusal_in (Answered length) = none
-refusal_in Silent = none
-refusal_in (ResponseRefused why) = some why
-
-abbrev pub scan_refusal_in : Scanned → Option Refusal
-scan_refusal_in (Complete sent skipped) = none
-scan_refusal_in (Nobody sent skipped) = none
-scan_refusal_in (Unfinished sent skipped) = none
-scan_refusal_in (ScanRefused why) = some why
+abbrev pub refusal_in : {A : Type 0} → Result A Refusal → Option Refusal
+refusal_in (Ok given) = None
+refusal_in (Err why) = Some why
 
 abbrev pub refusal_of : Outcome → Option Refusal
 refusal_of (answering a) = refusal_in a.response
-refusal_of (scanning s) = scan_refusal_in s.scanned
+refusal_of (scanning s) = refusal_in s.scanned
 
 -- ---- calls one after the other
 
@@ -123,14 +109,14 @@ named before (turn ∷ turns) = named (kept turn.request before ++ serial_in tur
 
 -- number 1 at 0 where there is less room than is needed
 abbrev pub short_or : ℕ → ℕ → Option Refusal → Option Refusal
-short_or needed room otherwise = pick (ltb room needed) (some (at_place output_short 0)) otherwise
+short_or needed room otherwise = pick (ltb room needed) (Some (at_place output_short 0)) otherwise
 
 -- the request reader's own number and place
-abbrev pub reader_refusal : RequestRead → Option Refusal
-reader_refusal (Asked request) = none
-reader_refusal (RequestRefused why) = some why
+abbrev pub reader_refusal : Result Request Refusal → Option Refusal
+reader_refusal (Ok request) = None
+reader_refusal (Err why) = Some why
 
 -- an answer buffer is measured before what was read; of a scan's two lists the shorter one is measured
 abbrev pub refusal_due : ℕ → Call → Option Refusal
 refusal_due n (ask read buffer) = short_or answer_room (length buffer) (reader_refusal read)
-refusal_due n (scan cap serials addresses) = short_or n (min (length serials) (length addresses)) none
+refusal_due n (scan cap serials addresses) = short_or n (min (length serials) (length addresses)) None

@@ -1,11 +1,10 @@
 -- Demand 3 (rule D9), as one claim about any list of calls: starts, continues, raw frames offered to the devices, and whole
 -- scans. The first three are `ask` of what they read as (`start`, `continue` and `offer` of Calls.antt), so what is said of
--- `ask read` is said of a start with `read` = `Asked Start`, of a continue with `Asked Continue`, and of an offered frame with
+-- `ask read` is said of a start with `read` = `Ok Start`, of a continue with `Ok Continue`, and of an offered frame with
 -- what the request reader finds in it. Each field has beside it what it says. The proof is in proofs/Demand3.antt; nothing
 -- here needs it to be read.
 -- Assumes nothing.
-use Rattle.std.specs.Prelude.{◌≡◌, true, List, [], ◌∷◌, ◌++◌, map, ℕ, ◌+◌, ◌*◌, ◌≤◌, ◌<◌, min, ltb, eqb, length, get_or, take, drop, replicate}
-use Rattle.std.proofs.Math.Option.{some, none}
+use Rattle.std.specs.Prelude.{◌≡◌, true, List, [], ◌∷◌, ◌++◌, map, ℕ, ◌+◌, ◌*◌, ◌≤◌, ◌<◌, min, ltb, eqb, length, get_or, take, drop, replicate, Some, None, Result, Ok}
 use Rattle.lists.specs.Choice.{pick}
 use Rattle.lists.specs.Starting.{starting}
 use Rattle.refusal.specs.declared.Refusal.{Refusal}
@@ -15,8 +14,6 @@ use Rattle.answers.specs.Layout.{found_frame, end_frame}
 use Rattle.answers.specs.Reading.{fill, read_answer}
 use Rattle.requests.specs.declared.Request.{Request}
 use Rattle.requests.specs.declared.Request.TheVariants.{Start, Continue}
-use Rattle.requests.specs.declared.RequestRead.{RequestRead}
-use Rattle.requests.specs.declared.RequestRead.TheVariants.{Asked}
 use Rattle.answers.specs.declared.AnswerRead.TheVariants.{Found, End}
 use Rattle.table.specs.Table.{Table, devices, marked, valid}
 use Rattle.turns.specs.Request.{Turn, key, keys, windows, standing, respond}
@@ -25,7 +22,6 @@ use Rattle.devices.specs.WholeScan.{Scanning, scan_call, serials_heard}
 use Rattle.turns.specs.Rank.{rank}
 use Rattle.turns.specs.declared.Answer.{Answer}
 use Rattle.turns.specs.declared.Answer.TheVariants.{Found as FoundAnswer, End as EndAnswer}
-use Rattle.devices.specs.declared.Response.TheVariants.{Answered}
 use Rattle.devices.specs.declared.Scanned.TheVariants.{Complete, Unfinished}
 use Rattle.sequence.specs.Calls.{Call, ask, scan, step, table_of, turns_of, lent, lent_after, refusal_of, after, history, Linked, counted, since_start, named, refusal_due}
 
@@ -50,7 +46,7 @@ pub record FoundDue (t : Table) (k : ℕ) (answer : Answer) : Type 0 where
   -- its bytes: an FF for each zero bit of its unscanned key, which are the windows that it made dominant, then its frame
   pub written : answer_bytes answer ≡ replicate (zero_bits windows (key 0 (serial_at t place))) fill ++ found_frame (serial_at t place) (address_at t place)
   -- read by the answer reader, it is that serial and that address, behind those FF
-  pub read : read_answer (answer_bytes answer) ≡ Found (zero_bits windows (key 0 (serial_at t place))) (serial_at t place) (address_at t place)
+  pub read : read_answer (answer_bytes answer) ≡ Ok (Found (zero_bits windows (key 0 (serial_at t place))) (serial_at t place) (address_at t place))
 
 -- Rule D9: the end, which the device with the smallest serial speaks.
 pub record EndDue (t : Table) (answer : Answer) : Type 0 where
@@ -62,7 +58,7 @@ pub record EndDue (t : Table) (answer : Answer) : Type 0 where
   -- its bytes: an FF for each zero bit of its scanned key, then the frame of the end
   pub written : answer_bytes answer ≡ replicate (zero_bits windows (key 1 (serial_at t place))) fill ++ end_frame
   -- read by the answer reader, it is the end, behind those FF
-  pub read : read_answer (answer_bytes answer) ≡ End (zero_bits windows (key 1 (serial_at t place)))
+  pub read : read_answer (answer_bytes answer) ≡ Ok (End (zero_bits windows (key 1 (serial_at t place))))
 
 -- Rule D9: what is due to request m, counted from the last start on, by the table that it met. The first n requests find a
 -- device each and all later ones the end; 0 stands for no start yet, to which nothing more is due.
@@ -82,7 +78,7 @@ pub record Contested (contending : Table) (answer : Answer) : Type 0 where
       ++ pick (eqb (mark_at contending place) 0) (found_frame (serial_at contending place) (address_at contending place)) end_frame
   -- and the answer reader counts as many, and finds that device, or the end (rule F5)
   pub read : read_answer (answer_bytes answer)
-      ≡ pick (eqb (mark_at contending place) 0) (Found (dominant_windows windows (keys contending)) (serial_at contending place) (address_at contending place)) (End (dominant_windows windows (keys contending)))
+      ≡ Ok (pick (eqb (mark_at contending place) 0) (Found (dominant_windows windows (keys contending)) (serial_at contending place) (address_at contending place)) (End (dominant_windows windows (keys contending))))
 
 -- ---- what a whole scan gives that is not refused (rules D8, D9)
 
@@ -103,7 +99,7 @@ pub record ScanDue (t : Table) (cap : ℕ) (serials addresses : List ℕ) (given
   pub counts : 0 < cap → (m : ℕ) → since_start m given.turns ≡ min cap (devices t + 1)
   -- it is Complete where the cap allows n + 1 requests, and else Unfinished; the first number is the number sent, the second counts
   -- the FF of all answers, the end's included: one for each window that was dominant in their contests
-  pub scanned : given.scanned ≡ pick (ltb (devices t) cap) (Complete (devices t + 1) (dominant_over given.turns)) (Unfinished cap (dominant_over given.turns))
+  pub scanned : given.scanned ≡ Ok (pick (ltb (devices t) cap) (Complete (devices t + 1) (dominant_over given.turns)) (Unfinished cap (dominant_over given.turns)))
   -- which are at most 32 for each request
   pub skipped_most : dominant_over given.turns ≤ 32 * length given.turns
   -- it names min(cap, n) serials
@@ -121,7 +117,7 @@ pub record ScanDue (t : Table) (cap : ℕ) (serials addresses : List ℕ) (given
   -- windows that were dominant in its contest, so that the scan's sum is the sum over what is read
   pub read : (earlier later : List Turn) (turn : Turn) → given.turns ≡ earlier ++ turn ∷ later
       → read_answer (answer_bytes turn.answer)
-      ≡ pick (ltb (length earlier) (devices t)) (Found (dominant_in turn) (get_or given.serials (length earlier) 0) (get_or given.addresses (length earlier) 0)) (End (dominant_in turn))
+      ≡ Ok (pick (ltb (length earlier) (devices t)) (Found (dominant_in turn) (get_or given.serials (length earlier) 0) (get_or given.addresses (length earlier) 0)) (End (dominant_in turn)))
 
 -- ---- what a start, a continue or an offered frame gives that is not refused (rules D4 to D7, D9)
 
@@ -131,7 +127,7 @@ pub record AskDue (t : Table) (m : ℕ) (request : Request) (buffer : List ℕ) 
   -- the buffer starts with the answer, the bytes behind it stay
   pub holds : given.buffer ≡ starting (answer_bytes (respond request t).answer) buffer
   -- its length is answered
-  pub answered : given.response ≡ Answered (length (answer_bytes (respond request t).answer))
+  pub answered : given.response ≡ Ok (Some (length (answer_bytes (respond request t).answer)))
   -- the answer is what is due to the request by its number
   pub due : Due t m (respond request t).answer
 
@@ -152,13 +148,13 @@ pub record Holds (t now : Table) (past : List Turn) (m : ℕ) : Type 0 where
   -- which call is refused next, with what number and place, and no other is
   pub refusals : (call : Call) → refusal_of (step call now) ≡ refusal_due (devices t) call
   -- a refused one makes no request and changes nothing that it was lent
-  pub unchanged : (call : Call) (why : Refusal) → refusal_due (devices t) call ≡ some why
+  pub unchanged : (call : Call) (why : Refusal) → refusal_due (devices t) call ≡ Some why
       → (turns_of (step call now) ≡ []) × (lent_after (step call now) ≡ lent call) × (table_of (step call now) ≡ now)
   -- a start, a continue or an offered frame made next that is not refused answers the request that it reads as
-  pub answers : (read : RequestRead) (request : Request) (buffer : List ℕ) → read ≡ Asked request → refusal_due (devices t) (ask read buffer) ≡ none
+  pub answers : (read : Result Request Refusal) (request : Request) (buffer : List ℕ) → read ≡ Ok request → refusal_due (devices t) (ask read buffer) ≡ None
       → AskDue now (counted m request) request buffer (ask_call read buffer now)
   -- a whole scan made next
-  pub scans : (cap : ℕ) (serials addresses : List ℕ) → refusal_due (devices t) (scan cap serials addresses) ≡ none
+  pub scans : (cap : ℕ) (serials addresses : List ℕ) → refusal_due (devices t) (scan cap serials addresses) ≡ None
       → ScanDue now cap serials addresses (scan_call cap serials addresses now)
   -- every request made before was answered as was due, whichever call made it
   pub history_due : (earlier later : List Turn) (turn : Turn) → past ≡ earlier ++ turn ∷ later

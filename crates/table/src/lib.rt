@@ -22,12 +22,10 @@ fn serials_right(serials: &[u32]) -> bool
     ensures { result ≡ all serial_right serials.now }
 {
     let mut right = true;
-    let mut i = 0;
-    while i < serials.len() {
-        if serials[i] >= SERIAL_LIMIT {
+    for serial in serials {
+        if *serial >= SERIAL_LIMIT {
             right = false;
         }
-        i += 1;
     }
     right
 }
@@ -37,12 +35,10 @@ fn stands_in(serial: u32, serials: &[u32]) -> bool
     ensures { result ≡ any (eqb serial) serials.now }
 {
     let mut stands = false;
-    let mut i = 0;
-    while i < serials.len() {
-        if serial == serials[i] {
+    for other in serials {
+        if serial == *other {
             stands = true;
         }
-        i += 1;
     }
     stands
 }
@@ -60,17 +56,12 @@ fn serials_differ(serials: &[u32]) -> bool
     ensures { result ≡ different serials.now }
 {
     let mut taken = [0u8; SLOTS];
-    let mut i = 0;
-    while i < serials.len() {
-        let serial = serials[i];
-        let slot = slot_of(serial);
-        if taken[slot] > 0 {
-            if stands_in(serial, &serials[..i]) {
-                return false;
-            }
+    for (i, serial) in serials.iter().enumerate() {
+        let slot = slot_of(*serial);
+        if taken[slot] > 0 && stands_in(*serial, &serials[..i]) {
+            return false;
         }
         taken[slot] = 1;
-        i += 1;
     }
     true
 }
@@ -80,34 +71,23 @@ pub fn zeros_and_ones(column: &[u8]) -> bool
     ensures { result ≡ all mark_right column.now }
 {
     let mut right = true;
-    let mut i = 0;
-    while i < column.len() {
-        if column[i] > 1 {
+    for mark in column {
+        if *mark > 1 {
             right = false;
         }
-        i += 1;
     }
     right
 }
 
 // Whether the three columns are a valid table.
+#[tactic(auto, unfolding(crate::specs::Table::valid))]
 pub fn valid(serials: &[u32], addresses: &[u8], marks: &[u8]) -> bool
     ensures { result ≡ valid (columns serials.now addresses.now marks.now) }
 {
-    if addresses.len() != serials.len() {
-        return false;
-    }
-    if marks.len() != serials.len() {
-        return false;
-    }
-    if serials.len() > MOST_DEVICES {
-        return false;
-    }
-    if !serials_right(serials) {
-        return false;
-    }
-    if !serials_differ(serials) {
-        return false;
-    }
-    zeros_and_ones(marks)
+    addresses.len() == serials.len()
+        && marks.len() == serials.len()
+        && serials.len() <= MOST_DEVICES
+        && serials_right(serials)
+        && serials_differ(serials)
+        && zeros_and_ones(marks)
 }

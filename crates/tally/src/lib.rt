@@ -6,9 +6,6 @@ pub mod part;
 
 use std::io;
 
-// A group that is counted past this stays there; no group here comes near it.
-const LIMIT: u32 = 1000000;
-
 #[derive(Clone, Copy)]
 pub struct Tally {
     run: u32,
@@ -22,24 +19,9 @@ pub fn none() -> Tally {
 impl Tally {
     // One case more.
     pub fn with(self, right: bool) -> Tally {
-        let run = self.run;
-        let held = self.right;
-        if LIMIT <= run {
-            return self;
-        }
-        if LIMIT <= held {
-            return self;
-        }
-        if right {
-            Tally {
-                run: run + 1,
-                right: held + 1,
-            }
-        } else {
-            Tally {
-                run: run + 1,
-                right: held,
-            }
+        Tally {
+            run: self.run.saturating_add(1),
+            right: self.right.saturating_add(u32::from(right)),
         }
     }
 

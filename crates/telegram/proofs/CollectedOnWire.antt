@@ -1,5 +1,7 @@
 -- What was collected stood on the wire, and what stands on the wire is collected.
 -- Assumes nothing.
+use Rattle.std.specs.Prelude.{Result, Ok, Err}
+use Rattle.refusal.specs.declared.Refusal.{Refusal}
 use mathlib.Core.Path.{◌≡◌, refl, sym, ap, ◌∙◌, subst}
 use mathlib.Core.Bool.{Bool}
 use mathlib.Core.List.{List, [], ◌∷◌, ◌++◌, append_assoc, append-nil}
@@ -12,8 +14,6 @@ use Rattle.lists.specs.Choice.{pick}
 use Rattle.lists.proofs.Cases.{pick_cases}
 use Rattle.refusal.specs.Number.{at_place}
 use Rattle.escapes.specs.Escape.{escaped, expanded}
-use Rattle.escapes.specs.declared.Logical.{Logical}
-use Rattle.escapes.specs.declared.Logical.TheVariants.{Byte, Refused}
 use Rattle.escapes.specs.Logical.{logical_at}
 use Rattle.escapes.proofs.LogicalBytes.{Stands, logical_stands}
 use Rattle.escapes.proofs.EscapeRoundTrip.{read_back}
@@ -44,7 +44,7 @@ Gathered command run n so_far at (read s l x) = Gather command run n so_far at s
 Gathered command run n so_far at (unread why) = Unit {0}
 
 -- one byte in front of what was gathered behind it
-in_front_lem : (command : Bool) (run : List ℕ) (n : ℕ) (so_far : List ℕ) (at b next : ℕ) → Stands run at (Byte b next) → fault_of (field_at command (length so_far)) b ≡ 0
+in_front_lem : (command : Bool) (run : List ℕ) (n : ℕ) (so_far : List ℕ) (at b next : ℕ) → Stands run at (Ok (b, next)) → fault_of (field_at command (length so_far)) b ≡ 0
     → (t : Telegram) → Gathered command run n (so_far ++ b ∷ []) next t → Gathered command run (suc n) so_far at t
 unfolding expanded
 in_front_lem command run n so_far at b next s fault (unread why) g = tt
@@ -63,9 +63,9 @@ in_front_lem command run n so_far at b next s fault (read bs l x) g =
 
 by_logical : (command : Bool) (run : List ℕ) (n : ℕ) (so_far : List ℕ) (at : ℕ) (rest : ℕ → ℕ → Telegram)
     → ((b next : ℕ) → Gathered command run n (so_far ++ b ∷ []) next (rest b next))
-    → (l : Logical) → Stands run at l → Gathered command run (suc n) so_far at (on_byte (field_at command (length so_far)) at l rest)
-by_logical command run n so_far at rest rec (Refused why) s = tt
-by_logical command run n so_far at rest rec (Byte b next) s =
+    → (l : Result (ℕ × ℕ) Refusal) → Stands run at l → Gathered command run (suc n) so_far at (on_byte (field_at command (length so_far)) at l rest)
+by_logical command run n so_far at rest rec (Err why) s = tt
+by_logical command run n so_far at rest rec (Ok (b, next)) s =
     let fault = fault_of (field_at command (length so_far)) b in
     pick_cases (Gathered command run (suc n) so_far at) (eqb fault 0) (rest b next) (unread (at_place fault at))
     (λ t. in_front_lem command run n so_far at b next s (eqb-true _ _ t) (rest b next) (rec b next)) (λ t. tt)
@@ -103,7 +103,7 @@ found command run (b ∷ bs) so_far last at rest fine wire =
       place = then.place;
       next = then.next;
       is =
-          ap (λ (l : Logical). on_byte field at l (λ b next. collected command run (length bs) (so_far ++ b ∷ []) at next)) back.1
+          ap (λ (l : Result (ℕ × ℕ) Refusal). on_byte field at l (λ b next. collected command run (length bs) (so_far ++ b ∷ []) at next)) back.1
           ∙ ap (λ t. pick t (collected command run (length bs) (so_far ++ b ∷ []) at back.0) (unread (at_place (fault_of field b) at))) (eq-eqb _ _ fine.0)
           ∙ then.is
           ∙ ap (λ (s : List ℕ). read s then.place then.next) (append_assoc so_far (b ∷ []) bs);

@@ -1,6 +1,8 @@
 -- A longer run: what was read of a telegram, or why it can't be read, is the same when more bytes follow, save the refusal by the
 -- run's own end.
 -- Assumes nothing.
+use Rattle.std.specs.Prelude.{Result, Ok, Err}
+use Rattle.refusal.specs.declared.Refusal.{Refusal}
 use mathlib.Core.Path.{◌≡◌}
 use mathlib.Core.Bool.{Bool}
 use mathlib.Core.List.{List, [], ◌∷◌, ◌++◌}
@@ -10,8 +12,6 @@ use lib.Dec.{eqb, leb}
 use lib.ListN.{length, get_or}
 use Rattle.refusal.specs.Number.{run_ended, at_place}
 use Rattle.lists.proofs.Cases.{pick_cases}
-use Rattle.escapes.specs.declared.Logical.{Logical}
-use Rattle.escapes.specs.declared.Logical.TheVariants.{Byte, Refused}
 use Rattle.escapes.specs.Logical.{run_over, logical_at}
 use Rattle.escapes.proofs.LongerRun.{Stays, OtherRefusal, OtherByte, stays_same, stays_on, stays_pick, logical_stays}
 use Rattle.addresses.specs.Address.{initiator, reserved}
@@ -31,12 +31,12 @@ fault_other unjudged b = λ e. omega arith
 
 by_byte : (run : List ℕ) (field : Field) (at : ℕ) (rest rest' : ℕ → ℕ → Telegram)
     → ((b next : ℕ) → Stays OtherTelegram (unread (run_over run)) (rest b next) (rest' b next))
-    → (l : Logical) → OtherByte l → Stays OtherTelegram (unread (run_over run)) (on_byte field at l rest) (on_byte field at l rest')
-by_byte run field at rest rest' each (Byte b next) h =
+    → (l : Result (ℕ × ℕ) Refusal) → OtherByte l → Stays OtherTelegram (unread (run_over run)) (on_byte field at l rest) (on_byte field at l rest')
+by_byte run field at rest rest' each (Ok (b, next)) h =
     let wrong = unread (at_place (fault_of field b) at) in
     stays_pick OtherTelegram (unread (run_over run)) (rest b next) (rest' b next) wrong wrong (eqb (fault_of field b) 0) (each b next)
     (stays_same OtherTelegram (unread (run_over run)) wrong (fault_other field b))
-by_byte run field at rest rest' each (Refused why) h = stays_same OtherTelegram (unread (run_over run)) (unread why) h
+by_byte run field at rest rest' each (Err why) h = stays_same OtherTelegram (unread (run_over run)) (unread why) h
 
 module _ (run more : List ℕ) where
   collected_stays : (command : Bool) (n : ℕ) (so_far : List ℕ) (last at : ℕ)
@@ -46,7 +46,7 @@ module _ (run more : List ℕ) where
   collected_stays command (suc n) so_far last at =
       let rest : List ℕ → ℕ → ℕ → Telegram = λ r b next. collected command r n (so_far ++ b ∷ []) at next in
       stays_on OtherByte OtherTelegram (λ l. on_byte (field_at command (length so_far)) at l (rest run)) (λ l. on_byte (field_at command (length so_far)) at l (rest (run ++ more)))
-      (Refused (run_over run)) (logical_at run at) (logical_at (run ++ more) at)
+      (Err (run_over run)) (logical_at run at) (logical_at (run ++ more) at)
       (by_byte run (field_at command (length so_far)) at (rest run) (rest (run ++ more)) (λ b next. collected_stays command n (so_far ++ b ∷ []) at next))
       (logical_stays run more at)
 

@@ -1,5 +1,6 @@
 -- A telegram that can't be read is refused at a place of the run, or at its end; for a fault of a field at a place of the run.
 -- Assumes nothing.
+use Rattle.std.specs.Prelude.{Result, Ok, Err}
 use mathlib.Core.Path.{◌≡◌, subst}
 use mathlib.Core.Bool.{Bool}
 use mathlib.Core.List.{List, [], ◌∷◌, ◌++◌}
@@ -12,8 +13,6 @@ use Rattle.lists.proofs.Cases.{pick_cases}
 use Rattle.refusal.specs.Number.{source_wrong}
 use Rattle.refusal.specs.declared.Refusal.{Refusal}
 use Rattle.escapes.specs.Escape.{esc, syn}
-use Rattle.escapes.specs.declared.Logical.{Logical}
-use Rattle.escapes.specs.declared.Logical.TheVariants.{Byte, Refused}
 use Rattle.escapes.specs.Logical.{escape_at, logical_at}
 use Rattle.escapes.proofs.LogicalBytes.{Stands, logical_stands}
 use Rattle.telegram.specs.Telegram.{head_of, length_place, Field, field_at, fault_of, Telegram, read, unread, on_byte, collected, on_head, telegram_at}
@@ -24,9 +23,9 @@ use Rattle.telegram.specs.Telegram.{head_of, length_place, Field, field_at, faul
 abbrev RefusedWithin : ℕ → Refusal → Type 0
 RefusedWithin n why = (why.place ≤ n) × (source_wrong ≤ why.number → why.place < n)
 
-abbrev ByteWithin : ℕ → Logical → Type 0
-ByteWithin n (Byte b next) = Unit {0}
-ByteWithin n (Refused why) = RefusedWithin n why
+abbrev ByteWithin : ℕ → Result (ℕ × ℕ) Refusal → Type 0
+ByteWithin n (Ok (b, next)) = Unit {0}
+ByteWithin n (Err why) = RefusedWithin n why
 
 escape_within : (run : List ℕ) (at : ℕ) → ByteWithin (length run) (escape_at run at)
 unfolding escape_at
@@ -60,9 +59,9 @@ Within n (unread why) = RefusedWithin n why
 
 -- a field's fault is at its first raw byte
 by_byte : (run : List ℕ) (field : Field) (at : ℕ) (rest : ℕ → ℕ → Telegram) → ((b next : ℕ) → Within (length run) (rest b next))
-    → (l : Logical) → ByteWithin (length run) l → Stands run at l → Within (length run) (on_byte field at l rest)
-by_byte run field at rest each (Byte b next) h s = pick_cases (Within (length run)) (eqb (fault_of field b) 0) _ _ (λ _. each b next) (λ _. (omega (arith, s.0, s.1), λ _. omega (arith, s.0, s.1)))
-by_byte run field at rest each (Refused why) h s = h
+    → (l : Result (ℕ × ℕ) Refusal) → ByteWithin (length run) l → Stands run at l → Within (length run) (on_byte field at l rest)
+by_byte run field at rest each (Ok (b, next)) h s = pick_cases (Within (length run)) (eqb (fault_of field b) 0) _ _ (λ _. each b next) (λ _. (omega (arith, s.0, s.1), λ _. omega (arith, s.0, s.1)))
+by_byte run field at rest each (Err why) h s = h
 
 module _ (command : Bool) (run : List ℕ) where
   collected_within : (n : ℕ) (so_far : List ℕ) (last at : ℕ) → Within (length run) (collected command run n so_far last at)

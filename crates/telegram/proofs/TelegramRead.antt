@@ -1,6 +1,7 @@
 -- What is known of a telegram that was read: its bytes are the logical bytes from its position on, it has room, its check is
 -- that of the raw bytes before the check byte, and DST is a command's second raw byte.
 -- Assumes nothing.
+use Rattle.std.specs.Prelude.{Result, Ok, Err}
 use mathlib.Core.Path.{◌≡◌, refl, sym, ap, ap₂, ◌∙◌}
 use mathlib.Core.Bool.{Bool, true, false}
 use mathlib.Core.List.{List, [], ◌∷◌, ◌++◌, append_assoc}
@@ -11,14 +12,12 @@ use lib.ListN.{length, get_or, take, drop, replicate, length-append, length-drop
 use lib.Seq.{take_at, take-append_seam}
 use borrow.Author.Tests.{ne_eqb}
 use Rattle.lists.specs.Choice.{pick}
-use Rattle.lists.proofs.Cases.{pick_cases, true_not_false}
+use Rattle.lists.proofs.Cases.{pick_cases}
 use Rattle.lists.specs.Starting.{starting}
 use Rattle.lists.proofs.Filling.{head_within, head_is, rest_is, put_whole}
 use Rattle.refusal.specs.Number.{at_place}
 use Rattle.refusal.specs.declared.Refusal.{Refusal}
 use Rattle.escapes.specs.Escape.{escaped, expanded}
-use Rattle.escapes.specs.declared.Logical.{Logical}
-use Rattle.escapes.specs.declared.Logical.TheVariants.{Byte, Refused}
 use Rattle.escapes.specs.Logical.{logical_at, and_then, logicals_at}
 use Rattle.escapes.proofs.Escaped.{expanded_append}
 use Rattle.escapes.proofs.EscapeRoundTrip.{read_back, expanded_longer}
@@ -48,19 +47,20 @@ pub record Told (t : Telegram) (e : Extent) : Type 0 where
   pub size : length bytes ≡ e.len
   pub final : last_of bytes ≡ e.value
 
-pub told_read : (t : Telegram) (e : Extent) → e ≡ extent_of t → e.whole ≡ true → Told t e
-told_read (read s l x) e is told =
+pub told_read : (t : Telegram) (e : Extent) → Ok e ≡ extent_of t → Told t e
+told_read (read s l x) e is =
+    let same : e ≡ record { len = length s; value = last_of s; last = l; next = x } = cc in
     record {
       bytes = s;
-      is = ap (λ (k : Extent). read s k.last k.next) (sym is);
-      size = ap (λ (k : Extent). k.len) (sym is);
-      final = ap (λ (k : Extent). k.value) (sym is);
+      is = ap (λ (k : Extent). read s k.last k.next) (sym same);
+      size = ap (λ (k : Extent). k.len) (sym same);
+      final = ap (λ (k : Extent). k.value) (sym same);
     }
-told_read (unread why) e is told = true_not_false told (ap (λ (k : Extent). k.whole) is)
+told_read (unread why) e is = let z : ◌≡◌ {A = ℕ} 0 1 = cc in let f : ⊥ = omega arith in absurd f
 
-pub told_unread : (t : Telegram) (e : Extent) → e ≡ extent_of t → e.whole ≡ false → t ≡ unread e.why
-told_unread (read s l x) e is told = true_not_false (ap (λ (k : Extent). k.whole) is) told
-told_unread (unread why) e is told = ap (λ (k : Extent). unread k.why) (sym is)
+pub told_unread : (t : Telegram) (why : Refusal) → Err why ≡ extent_of t → t ≡ unread why
+told_unread (read s l x) why is = cc
+told_unread (unread same) why is = cc
 
 -- ---- the head, and what is collected behind it
 
@@ -71,31 +71,31 @@ pub record HeadTold (command : Bool) (run : List ℕ) (at : ℕ) (head : Extent)
   pub whole : head.len ≡ head_of command
   pub then : telegram_at command run at ≡ collected command run (head.value + 1) bytes head.last head.next
 
-module _ (command : Bool) (run : List ℕ) (at : ℕ) (head : Extent) (is : head ≡ extent_of (collected command run (head_of command) [] at at)) where
-  -- LEN is the last byte of a whole head
-  pub head_told : head.whole ≡ true → HeadTold command run at head
-  unfolding telegram_at
-  head_told told =
-      let t = told_read (collected command run (head_of command) [] at at) head is told in
-      let g = gathered_read command run (head_of command) [] at at t.bytes head.last head.next t.is in
-      let count : length t.bytes ≡ head_of command = ap length g.bytes ∙ g.count in
-      record {
-        bytes = t.bytes;
-        size = t.size;
-        final = t.final;
-        whole = sym t.size ∙ count;
-        then =
-            ap (on_head command run) t.is
-            ∙ ap (λ (n : ℕ). collected command run (n + 1) t.bytes head.last head.next)
-            (ap (λ (k : ℕ). get_or t.bytes (k - 1) 0) (sym count) ∙ t.final);
-      }
+-- LEN is the last byte of a whole head
+pub head_told : (command : Bool) (run : List ℕ) (at : ℕ) (head : Extent) → Ok head ≡ extent_of (collected command run (head_of command) [] at at)
+    → HeadTold command run at head
+unfolding telegram_at
+head_told command run at head is =
+    let t = told_read (collected command run (head_of command) [] at at) head is in
+    let g = gathered_read command run (head_of command) [] at at t.bytes head.last head.next t.is in
+    let count : length t.bytes ≡ head_of command = ap length g.bytes ∙ g.count in
+    record {
+      bytes = t.bytes;
+      size = t.size;
+      final = t.final;
+      whole = sym t.size ∙ count;
+      then =
+          ap (on_head command run) t.is
+          ∙ ap (λ (n : ℕ). collected command run (n + 1) t.bytes head.last head.next)
+          (ap (λ (k : ℕ). get_or t.bytes (k - 1) 0) (sym count) ∙ t.final);
+    }
 
-  -- a refusal in the head is the telegram's
-  pub head_refused : head.whole ≡ false → head ≡ extent_of (telegram_at command run at)
-  unfolding telegram_at
-  head_refused told =
-      let u = told_unread (collected command run (head_of command) [] at at) head is told in
-      is ∙ ap extent_of u ∙ ap (λ (t : Telegram). extent_of (on_head command run t)) (sym u)
+-- a refusal in the head is the telegram's
+pub head_refused : (command : Bool) (run : List ℕ) (at : ℕ) (why : Refusal) → Err why ≡ extent_of (collected command run (head_of command) [] at at)
+    → Err why ≡ extent_of (telegram_at command run at)
+unfolding telegram_at
+head_refused command run at why is =
+    ap (λ (t : Telegram). extent_of (on_head command run t)) (sym (told_unread (collected command run (head_of command) [] at at) why is))
 
 -- ---- the bytes
 
@@ -104,7 +104,7 @@ unfolding expanded logicals_at
 on_wire_lem run [] at rest e = refl
 on_wire_lem run (b ∷ s) at rest e =
     let back = read_back run at b (expanded s ++ rest) (e ∙ append_assoc (escaped b) (expanded s) rest) in
-    ap (λ (l : Logical). and_then l (logicals_at run (length s))) back.1 ∙ ap (λ (l : List ℕ). b ∷ l) (on_wire_lem run s back.0 rest back.2)
+    ap (λ (l : Result (ℕ × ℕ) Refusal). and_then l (logicals_at run (length s))) back.1 ∙ ap (λ (l : List ℕ). b ∷ l) (on_wire_lem run s back.0 rest back.2)
 
 module _ (command : Bool) (run : List ℕ) (at : ℕ) (s : List ℕ) (l x : ℕ) (e : telegram_at command run at ≡ read s l x) where
   stands : Stood command run at s x
@@ -126,19 +126,21 @@ module _ (command : Bool) (run : List ℕ) (at : ℕ) (s : List ℕ) (l x : ℕ)
       by_command false w = omega (arith, ap length w.bytes, length-append w.front w.behind, w.count, w.size, head_length false w.front w.count w.fine)
 
 -- the bytes put into an array of zeros, beside the extent, are the telegram by value
-pub by_value : (command : Bool) (run : List ℕ) (at : ℕ) (t : Telegram) → telegram_at command run at ≡ t → (e : Extent) → e ≡ extent_of t → (array : List ℕ)
+pub by_value : (command : Bool) (run : List ℕ) (at : ℕ) (t : Telegram) → telegram_at command run at ≡ t → (e : Extent) → Ok e ≡ extent_of t → (array : List ℕ)
     → array ≡ starting (take command_room (logicals_at run e.len at)) (replicate command_room 0)
-    → record { bytes = array; len = e.len; last = e.last; next = e.next; whole = e.whole; why = e.why } ≡ telegram_of t
-unfolding logicals_at
-by_value command run at (unread why) is e same array put =
-    ap₂ (λ (l : List ℕ) (k : Extent). record { bytes = l; len = k.len; last = k.last; next = k.next; whole = k.whole; why = k.why })
-    (put ∙ ap (λ (k : Extent). starting (take command_room (logicals_at run k.len at)) (replicate command_room 0)) same) same
-by_value command run at (read s l x) is e same array put =
+    → Ok (record { bytes = array; len = e.len; last = e.last; next = e.next }) ≡ telegram_of t
+by_value command run at (unread why) is e told array put = cc
+by_value command run at (read s l x) is e told array put =
     let room : length s ≤ command_room = fits_array command (length s) (telegram_room command run at s l x is) in
-    ap₂ (λ (l : List ℕ) (k : Extent). record { bytes = l; len = k.len; last = k.last; next = k.next; whole = k.whole; why = k.why })
+    let same : e ≡ record { len = length s; value = last_of s; last = l; next = x } = cc in
+    ap₂ (λ (b : List ℕ) (k : Extent). Ok (record { bytes = b; len = k.len; last = k.last; next = k.next }))
     (put ∙ ap (λ (k : Extent). starting (take command_room (logicals_at run k.len at)) (replicate command_room 0)) same
     ∙ ap (λ (b : List ℕ). starting (take command_room b) (replicate command_room 0)) (telegram_bytes command run at s l x is)
     ∙ put_whole s (replicate command_room 0) room) same
+
+pub unread_by_value : (t : Telegram) (why : Refusal) → Err why ≡ extent_of t → Err why ≡ telegram_of t
+unread_by_value (read s l x) why told = cc
+unread_by_value (unread same) why told = cc
 
 -- ---- DST
 
@@ -176,10 +178,10 @@ by_fault command run true a b why e = e
 by_fault command run false a b why e = refl
 
 by_logical : (command : Bool) (run : List ℕ) (field : Field) (at : ℕ) (whole most : ℕ → ℕ → Telegram)
-    → ((b next : ℕ) → whole b next ≡ and_one command run (most b next)) → (l : Logical)
+    → ((b next : ℕ) → whole b next ≡ and_one command run (most b next)) → (l : Result (ℕ × ℕ) Refusal)
     → on_byte field at l whole ≡ and_one command run (on_byte field at l most)
-by_logical command run field at whole most e (Refused why) = refl
-by_logical command run field at whole most e (Byte b next) =
+by_logical command run field at whole most e (Err why) = refl
+by_logical command run field at whole most e (Ok (b, next)) =
     by_fault command run (eqb (fault_of field b) 0) (whole b next) (most b next) (at_place (fault_of field b) at) (e b next)
 
 split_one : (command : Bool) (run : List ℕ) (n : ℕ) (so_far : List ℕ) (last at : ℕ)
@@ -200,10 +202,10 @@ pub record Lastly (command : Bool) (run : List ℕ) (n : ℕ) (so_far : List ℕ
   pub before : collected command run n so_far last at ≡ read most place l
   pub bytes : s ≡ most ++ byte ∷ []
 
-one_byte : (command : Bool) (run most : List ℕ) (place at : ℕ) (s : List ℕ) (l x : ℕ) (byte : Logical)
+one_byte : (command : Bool) (run most : List ℕ) (place at : ℕ) (s : List ℕ) (l x : ℕ) (byte : Result (ℕ × ℕ) Refusal)
     → on_byte (field_at command (length most)) at byte (λ b next. read (most ++ b ∷ []) at next) ≡ read s l x → (b : ℕ) × (at ≡ l) × (s ≡ most ++ b ∷ [])
-one_byte command run most place at s l x (Refused why) e = let z : ◌≡◌ {A = ℕ} 0 1 = cc in let f : ⊥ = omega arith in absurd f
-one_byte command run most place at s l x (Byte b next) e =
+one_byte command run most place at s l x (Err why) e = let z : ◌≡◌ {A = ℕ} 0 1 = cc in let f : ⊥ = omega arith in absurd f
+one_byte command run most place at s l x (Ok (b, next)) e =
     pick_cases (λ (t : Telegram). t ≡ read s l x → (b : ℕ) × (at ≡ l) × (s ≡ most ++ b ∷ [])) (eqb (fault_of (field_at command (length most)) b) 0) _ _
     (λ _ same. let place_is : at ≡ l = cc in let bytes_are : most ++ b ∷ [] ≡ s = cc in (b, place_is, sym bytes_are))
     (λ _ no. let z : ◌≡◌ {A = ℕ} 0 1 = cc in let f : ⊥ = omega arith in absurd f) e

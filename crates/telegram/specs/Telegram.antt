@@ -1,12 +1,10 @@
 -- A telegram, rules E9 and E10: what one is, and how one is read from a run at an absolute position. It is a
 -- command where `command` holds, and else a reply.
 -- Assumes nothing.
-use Rattle.std.specs.Prelude.{ℕ, zero, suc, ◌+◌, ◌-◌, Bool, true, false, List, [], ◌∷◌, ◌++◌, eqb, leb, length, get_or, take}
+use Rattle.std.specs.Prelude.{ℕ, zero, suc, ◌+◌, ◌-◌, Bool, true, false, List, [], ◌∷◌, ◌++◌, eqb, leb, length, get_or, take, Result, Ok, Err}
 use Rattle.lists.specs.Choice.{pick}
 use Rattle.refusal.specs.Number.{source_wrong, destination_wrong, length_over, at_place}
 use Rattle.refusal.specs.declared.Refusal.{Refusal}
-use Rattle.escapes.specs.declared.Logical.{Logical}
-use Rattle.escapes.specs.declared.Logical.TheVariants.{Byte, Refused}
 use Rattle.escapes.specs.Logical.{logical_at}
 use Rattle.addresses.specs.Address.{initiator, reserved}
 use Rattle.checkbyte.specs.Check.{ebus_check}
@@ -86,9 +84,9 @@ pub data Telegram : Type 0 where
   unread : Refusal → Telegram
 
 -- rule E4: a logical byte's own refusal first, then its field's fault at its first raw byte, and else the rest of the telegram
-abbrev pub on_byte : Field → ℕ → Logical → (ℕ → ℕ → Telegram) → Telegram
-on_byte field at (Byte b next) rest = pick (eqb (fault_of field b) 0) (rest b next) (unread (at_place (fault_of field b) at))
-on_byte field at (Refused why) rest = unread why
+abbrev pub on_byte : Field → ℕ → Result (ℕ × ℕ) Refusal → (ℕ → ℕ → Telegram) → Telegram
+on_byte field at (Ok (b, next)) rest = pick (eqb (fault_of field b) 0) (rest b next) (unread (at_place (fault_of field b) at))
+on_byte field at (Err why) rest = unread why
 
 -- n bytes more, behind those read so far, of which the last stands at the position last
 unfoldable pub collected : Bool → List ℕ → ℕ → List ℕ → ℕ → ℕ → Telegram

@@ -9,15 +9,14 @@
 #![tactic(auto)]
 
 ghost use Rattle.std.specs.Prelude.{◌≡◌, true, false, ◌+◌, ◌≤◌, List, [], ℕ, length};
-ghost use Rattle.refusal.specs.Number.{at_place};
 ghost use Rattle.telegram.specs.Telegram.{command_head, head_of, last_of, check_right, field_at, fault_of, collected, telegram_at};
 ghost use Rattle.telegram.specs.View.{extent_of, telegram_of};
 ghost use Rattle.telegram.specs.Inner.{field_of, why_of};
 
 use addresses::{is_initiator, is_reserved};
 use checkbyte::ebus_check;
-use escapes::{Logical, logical_at, put_logical};
-use refusal::{DESTINATION_WRONG, LENGTH_OVER, Refusal, SOURCE_WRONG};
+use escapes::{logical_at, put_logical};
+use refusal::{DESTINATION_WRONG, LENGTH_OVER, Refusal, SOURCE_WRONG, refused};
 
 // How many bytes a command's head has, and a reply's: those through LEN.
 pub const COMMAND_HEAD: usize = 5;
@@ -42,16 +41,13 @@ enum Field {
 }
 
 // How far a telegram was read: how many bytes, the last of them, its place, and the position behind
-// it; or why it can't be read. A flag and the refusal stand beside each other: an enum that holds a
-// refusal is put together in memory at every return.
+// it.
 #[derive(Clone, Copy)]
 pub struct Extent {
     pub len: usize,
     pub value: u8,
     pub last: usize,
     pub next: usize,
-    pub whole: bool,
-    pub why: Refusal,
 }
 
 // A telegram by value: the first len of its bytes, the place of the last of them, and the position
@@ -62,11 +58,10 @@ pub struct Telegram {
     pub len: usize,
     pub last: usize,
     pub next: usize,
-    pub whole: bool,
-    pub why: Refusal,
 }
 
 // Whether the last byte of a telegram is the check byte of those before it.
+#[tactic(auto, unfolding(crate::specs::Telegram::check_right))]
 pub fn check_right(telegram: &[u8]) -> bool
     ensures { result ≡ check_right telegram.now }
 {
@@ -131,6 +126,7 @@ fn fault_of(field: Field, b: u8) -> u8
 
 // What is wrong with the byte at a place. Behind the head nothing is judged, so that its place need
 // not be looked at.
+#[tactic(auto, using(crate::proofs::HeadJudged::no_fault_behind))]
 fn fault_at(in_head: bool, command: bool, place: usize, b: u8) -> u8
     requires { in_head ≡ false → head_of command ≤ place }
     ensures { result ≡ fault_of (field_at command place) b }
@@ -142,116 +138,90 @@ fn fault_at(in_head: bool, command: bool, place: usize, b: u8) -> u8
 }
 
 // Why there is no logical byte; of a byte, nothing.
-fn why_of(x: Logical) -> Refusal
+fn why_of(x: Result<(u8, usize), Refusal>) -> Refusal
     ensures { result ≡ why_of x }
 {
     match x {
-        Logical::Byte(_, _) => Refusal {
+        Ok((_, _)) => Refusal {
             number: 0,
             place: 0,
         },
-        Logical::Refused(why) => why,
-    }
-}
-
-// Read so far: how many bytes, the last of them, its place, and the position behind it.
-fn read_to(len: usize, value: u8, last: usize, next: usize) -> Extent
-    ensures { result ≡ record { len = len; value = value; last = last; next = next; whole = true; why = at_place 0 0 } }
-{
-    let why = Refusal {
-        number: 0,
-        place: 0,
-    };
-    Extent {
-        len,
-        value,
-        last,
-        next,
-        whole: true,
-        why,
-    }
-}
-
-// A telegram that can't be read.
-fn not_read(why: Refusal) -> Extent
-    ensures { result ≡ record { len = 0; value = 0; last = 0; next = 0; whole = false; why = why } }
-{
-    Extent {
-        len: 0,
-        value: 0,
-        last: 0,
-        next: 0,
-        whole: false,
-        why,
+        Err(why) => why,
     }
 }
 
 // n bytes more, behind those read so far.
-fn collect(run: &[u8], command: bool, in_head: bool, n: usize, from: Extent) -> Extent
+fn collect(
+    run: &[u8],
+    command: bool,
+    in_head: bool,
+    n: usize,
+    from: Extent,
+) -> Result<Extent, Refusal>
     requires n_bound { from.len + n ≤ command_head + 256 }
     requires command_bound { in_head ≡ false → head_of command ≤ from.len }
     ensures { (so_far : List ℕ) → length so_far ≡ from.len → last_of so_far ≡ from.value → result ≡ extent_of (collected command run.now n so_far from.last from.next) }
 {
-    let mut len = from.len;
+    let len = from.len + n;
     let mut value = from.value;
     let mut last = from.last;
     let mut at = from.next;
-    let mut left = n;
-    while 0 < left {
+    for place in from.len..len {
+        // Each logical byte is taken apart here, by `let else`: its refusal is returned at once.
         let x = logical_at(run, at);
-        let Logical::Byte(b, next) = x else {
-            return not_read(why_of(x));
+        let Ok((b, next)) = x else {
+            return Err(why_of(x));
         };
-        let fault = fault_at(in_head, command, len, b);
+        let fault = fault_at(in_head, command, place, b);
         if fault != 0 {
-            return not_read(Refusal {
-                number: fault,
-                place: at,
-            });
+            return refused(fault, at);
         }
-        len += 1;
         value = b;
         last = at;
         at = next;
-        left -= 1;
     }
-    read_to(len, value, last, at)
+    Ok(Extent {
+        len,
+        value,
+        last,
+        next: at,
+    })
 }
 
 // The head of the telegram at a position: the bytes through LEN.
-fn head_at(run: &[u8], command: bool, at: usize) -> Extent
+fn head_at(run: &[u8], command: bool, at: usize) -> Result<Extent, Refusal>
     ensures { result ≡ extent_of (collected command run.now (head_of command) [] at at) }
 {
-    collect(run, command, true, head_of(command), read_to(0, 0, at, at))
+    let nothing = Extent {
+        len: 0,
+        value: 0,
+        last: at,
+        next: at,
+    };
+    collect(run, command, true, head_of(command), nothing)
 }
 
 // The command, or else the reply, at a position of the run: how far it reaches, through the check
 // byte, or the first refusal that is met.
-pub fn extent_at(run: &[u8], command: bool, at: usize) -> Extent
+pub fn extent_at(run: &[u8], command: bool, at: usize) -> Result<Extent, Refusal>
     ensures { result ≡ extent_of (telegram_at command run.now at) }
 {
-    let head = head_at(run, command, at);
-    if !head.whole {
-        return head;
-    }
+    let head = head_at(run, command, at)?;
     let payload = head.value as usize;
     collect(run, command, false, payload + 1, head)
 }
 
 // The same with its bytes, by value. Behind them stand zeros.
-pub fn telegram_at(run: &[u8], command: bool, at: usize) -> Telegram
+pub fn telegram_at(run: &[u8], command: bool, at: usize) -> Result<Telegram, Refusal>
     ensures { result ≡ telegram_of (telegram_at command run.now at) }
 {
-    let t = extent_at(run, command, at);
+    let t = extent_at(run, command, at)?;
     let mut bytes = [0u8; COMMAND_ROOM];
     put_logical(run, at, t.len, &mut bytes);
-    let why = t.why;
-    Telegram {
+    Ok(Telegram {
         bytes,
         len: t.len,
         last: t.last,
         next: t.next,
-        whole: t.whole,
-        why,
-    }
+    })
 }

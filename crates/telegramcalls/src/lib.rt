@@ -11,21 +11,36 @@ ghost use Rattle.replies.specs.Data.{empty_start, part_in, part_of};
 ghost use Rattle.boundary.specs.ForC.{telegram_for_c, by_value_for_c, part_for_c, written_for_c, judged_for_c};
 
 use boundary::{MoorJudged, MoorPart, MoorTelegram, MoorWritten, judged_for_c, written_for_c};
-use telegram::Telegram;
+use refusal::Refusal;
+use telegram::{COMMAND_ROOM, Telegram};
 
 // A telegram by value, as an answer.
-fn telegram_for_c(x: Telegram) -> MoorTelegram
+fn telegram_for_c(x: Result<Telegram, Refusal>) -> MoorTelegram
     ensures { result ≡ by_value_for_c x }
 {
-    let bytes = x.bytes;
-    let why = x.why;
-    MoorTelegram {
-        number: why.number,
-        place: why.place,
-        length: x.len,
-        last: x.last,
-        next: x.next,
-        bytes,
+    match x {
+        Ok(t) => {
+            let bytes = t.bytes;
+            MoorTelegram {
+                number: 0,
+                place: 0,
+                length: t.len,
+                last: t.last,
+                next: t.next,
+                bytes,
+            }
+        }
+        Err(why) => {
+            let bytes = [0u8; COMMAND_ROOM];
+            MoorTelegram {
+                number: why.number,
+                place: why.place,
+                length: 0,
+                last: 0,
+                next: 0,
+                bytes,
+            }
+        }
     }
 }
 

@@ -1,6 +1,6 @@
 -- The worked examples W1 to W14 of docs/RULES.md, together and in order. The proof is in proofs/All.antt.
 -- Assumes nothing.
-use Rattle.std.specs.Prelude.{◌≡◌, List, [], ◌∷◌, ℕ, suc, ◌≤◌}
+use Rattle.std.specs.Prelude.{◌≡◌, List, [], ◌∷◌, ℕ, suc, ◌≤◌, Ok}
 use Rattle.refusal.specs.Number.{bus_error, at_place}
 use Rattle.lists.specs.Starting.{starting}
 use Rattle.escapes.specs.Escape.{expanded}
@@ -14,7 +14,6 @@ use Rattle.answers.specs.Layout.{found_frame, end_frame}
 use Rattle.requests.specs.Reading.{read_request}
 use Rattle.answers.specs.Reading.{read_answer}
 use Rattle.requests.specs.declared.Request.TheVariants.{Start, Continue}
-use Rattle.requests.specs.declared.RequestRead.TheVariants.{Asked}
 use Rattle.answers.specs.declared.AnswerRead.TheVariants.{Found, End}
 use Rattle.table.specs.Table.{Table, columns}
 use Rattle.devices.specs.WholeScan.{scan_call}
@@ -55,20 +54,20 @@ pub record Rows : Type 0 where
   pub w8 : (command first second : ℕ) → 22 ≤ command → 18 ≤ first → 18 ≤ second → judged (exchange_with 0x55) command first second ≡ rejected (at_place bus_error 7)
   -- W9 and W10: the two requests and the end, as they are written and as they are read (rules F3, F4)
   pub w9 : (request_frame Start ≡ 0xFD ∷ 0x46 ∷ 0x01 ∷ 0x13 ∷ 0x90 ∷ []) × (request_frame Continue ≡ 0xFD ∷ 0x46 ∷ 0x02 ∷ 0x53 ∷ 0x91 ∷ [])
-      × (read_request (0xFD ∷ 0x46 ∷ 0x01 ∷ 0x13 ∷ 0x90 ∷ []) ≡ Asked Start) × (read_request (0xFD ∷ 0x46 ∷ 0x02 ∷ 0x53 ∷ 0x91 ∷ []) ≡ Asked Continue)
-  pub w10 : (end_frame ≡ 0xFD ∷ 0x46 ∷ 0x04 ∷ 0xD3 ∷ 0x93 ∷ []) × (read_answer (0xFD ∷ 0x46 ∷ 0x04 ∷ 0xD3 ∷ 0x93 ∷ []) ≡ End 0)
+      × (read_request (0xFD ∷ 0x46 ∷ 0x01 ∷ 0x13 ∷ 0x90 ∷ []) ≡ Ok Start) × (read_request (0xFD ∷ 0x46 ∷ 0x02 ∷ 0x53 ∷ 0x91 ∷ []) ≡ Ok Continue)
+  pub w10 : (end_frame ≡ 0xFD ∷ 0x46 ∷ 0x04 ∷ 0xD3 ∷ 0x93 ∷ []) × (read_answer (0xFD ∷ 0x46 ∷ 0x04 ∷ 0xD3 ∷ 0x93 ∷ []) ≡ Ok (End 0))
   -- W11: a device found, written and read (rule F4)
   pub w11 : (found_frame 0x0001EB37 0x0C ≡ 0xFD ∷ 0x46 ∷ 0x03 ∷ 0x00 ∷ 0x01 ∷ 0xEB ∷ 0x37 ∷ 0x0C ∷ 0xCE ∷ 0xDC ∷ [])
-      × (read_answer (0xFD ∷ 0x46 ∷ 0x03 ∷ 0x00 ∷ 0x01 ∷ 0xEB ∷ 0x37 ∷ 0x0C ∷ 0xCE ∷ 0xDC ∷ []) ≡ Found 0 0x0001EB37 0x0C)
+      × (read_answer (0xFD ∷ 0x46 ∷ 0x03 ∷ 0x00 ∷ 0x01 ∷ 0xEB ∷ 0x37 ∷ 0x0C ∷ 0xCE ∷ 0xDC ∷ []) ≡ Ok (Found 0 0x0001EB37 0x0C))
   -- W12: three devices, listed by rising serial, under any cap of 4 or more (rule D8)
   pub w12 : (a b c p q r x y z more : ℕ)
-      → ((scan_call (suc (suc (suc (suc more)))) (entries p q r) (entries x y z) (three_devices a b c)).scanned ≡ Complete 4 106)
+      → ((scan_call (suc (suc (suc (suc more)))) (entries p q r) (entries x y z) (three_devices a b c)).scanned ≡ Ok (Complete 4 106))
       × ((scan_call (suc (suc (suc (suc more)))) (entries p q r) (entries x y z) (three_devices a b c)).serials ≡ 5 ∷ 9 ∷ 0x0001EB37 ∷ [])
       × ((scan_call (suc (suc (suc (suc more)))) (entries p q r) (entries x y z) (three_devices a b c)).addresses ≡ b ∷ c ∷ a ∷ [])
   -- W13: a cap of as many requests as devices lists them all and does not hear the end (rule D8)
   pub w13 : (a b c p q r x y z : ℕ)
-      → ((scan_call 3 (entries p q r) (entries x y z) (three_devices a b c)).scanned ≡ Unfinished 3 80)
+      → ((scan_call 3 (entries p q r) (entries x y z) (three_devices a b c)).scanned ≡ Ok (Unfinished 3 80))
       × ((scan_call 3 (entries p q r) (entries x y z) (three_devices a b c)).serials ≡ 5 ∷ 9 ∷ 0x0001EB37 ∷ [])
       × ((scan_call 3 (entries p q r) (entries x y z) (three_devices a b c)).addresses ≡ b ∷ c ∷ a ∷ [])
   -- W14: where there is no device, one request tells (rule D8)
-  pub w14 : (scan_call 1 [] [] (columns [] [] [])).scanned ≡ Nobody 1 0
+  pub w14 : (scan_call 1 [] [] (columns [] [] [])).scanned ≡ Ok (Nobody 1 0)

@@ -33,7 +33,7 @@ const BEFORE: &str = "before";
 
 /// From so many bytes on the archive takes two bytes a step from two rows; the
 /// same number stands in crates/crc/src/lib.rt.
-pub const ROWS_FROM: usize = 36;
+pub const ROWS_FROM: usize = 64;
 
 /// So many different frames of a size are gone over in turn.
 const INPUTS: usize = 128;

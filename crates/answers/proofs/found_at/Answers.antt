@@ -17,4 +17,4 @@ returns-then-serial-lt-SERIAL_LIMIT c =
     simp (← c.serial_at-serial.ensures, address, lt-ltb c.serial_at-serial.result serial_limit (omega arith))
 
 pub returns : goal.returns
-returns c = simp (← c.serial_at-serial.ensures, le-ltb c.serial_at-serial.result serial_limit (omega arith))
+returns c = simp (← c.serial_at-serial.ensures, le-ltb c.serial_at-serial.result serial_limit (omega arith)) c.refused.ensures

@@ -22,7 +22,7 @@ pub over_windows-requires : goal.over_windows-requires
 over_windows-requires c =
     let windows = c.args.windows in
     let keys = c.args.keys.now in
-    let below : (i : ℕ) → i < length keys → get_or keys i 0 < 2 ^ 32 = λ i h. (c.shared_slice_known-1.given i).fits in
+    let below : (i : ℕ) → i < length keys → get_or keys i 0 < 2 ^ 32 = λ i h. (c.type_inv.keys i).fits in
     let more : 32 ≤ windows = omega (arith, c.if-windows-gt-KEY_BITS.true) in
     let somebody : any (fits windows) keys ≡ true = sym c.some_fits.ensures ∙ c.if-not-some_fits.false in
     (omega arith, omega arith, omega arith, any_cong (fits_is 32) keys ∙ sym (all_fit 32 32 keys (omega arith) below) ∙ all_fit windows 32 keys more below ∙ somebody)
@@ -31,7 +31,7 @@ pub returns-then-windows-gt-KEY_BITS : goal.returns-then-windows-gt-KEY_BITS
 returns-then-windows-gt-KEY_BITS c =
     let windows = c.args.windows in
     let keys = c.args.keys.now in
-    let below : (i : ℕ) → i < length keys → get_or keys i 0 < 2 ^ 32 = λ i h. (c.shared_slice_known-1.given i).fits in
+    let below : (i : ℕ) → i < length keys → get_or keys i 0 < 2 ^ 32 = λ i h. (c.type_inv.keys i).fits in
     let more : 32 ≤ windows = omega (arith, c.if-windows-gt-KEY_BITS.true) in
     let somebody : any (fits windows) keys ≡ true = sym c.some_fits.ensures ∙ c.if-not-some_fits.false in
     c.over_windows.ensures ∙ decided_above 32 (windows - 32) windows keys (omega arith) (ltb-true 0 (length keys) (all_fit windows 32 keys more below ∙ somebody)) below

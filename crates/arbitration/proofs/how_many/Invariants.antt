@@ -1,13 +1,13 @@
--- `arbitration::how_many` meets its contract: the count goes by parts. Assumes nothing.
-use mathlib.Core.Path.{◌≡◌}
-use Prim.Native.Nat.{◌+◌, ◌-◌, ◌≤◌}
-use lib.ListN.{length, drop}
-use Rattle.lists.specs.Tests.{how_many}
+-- `arbitration::how_many` meets its contract. The loop's invariant: the keys of the parts so far are counted, and those left are to be.
+-- Assumes nothing.
+use Rattle.std.proofs.Common.{◌≡◌, ◌+◌}
+use Rattle.std.specs.List.{count_by}
+use Rattle.std.specs.Slice.Iter.{chunks_rest, chunks_size}
 use Rattle.arbitration.specs.Prefix.{starts}
 use Rattle.arbitration.proofs.how_many.Given as goal
 
-abbrev pub invariant-loop-from : goal.invariant-loop-from
-invariant-loop-from l = (l.from ≤ length l.keys) × (l.count + how_many (starts l.windows l.prefix) (drop l.from l.keys) ≡ how_many (starts l.windows l.prefix) l.keys)
-
-abbrev pub decreases-loop-from : goal.decreases-loop-from
-decreases-loop-from l = length l.keys - l.from
+abbrev pub invariant-loop-part : goal.invariant-loop-part
+invariant-loop-part l = record {
+  size : chunks_size l.part-iterator ≡ 65536;
+  counted : l.count + count_by (starts l.windows l.prefix) (chunks_rest l.part-iterator) ≡ count_by (starts l.windows l.prefix) l.keys;
+}

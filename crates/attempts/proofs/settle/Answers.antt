@@ -1,13 +1,15 @@
 -- `attempts::settle` meets its contract: the answer is picked by the check of the raw bytes.
 -- Assumes nothing.
-use mathlib.Core.Path.{sym, ap, ◌∙◌, subst}
+use Rattle.std.specs.Prelude.{Result}
+use mathlib.Core.Path.{sym, ap, ◌∙◌}
 use mathlib.Core.Bool.{true, false}
 use Prim.Native.Nat.{ℕ}
 use lib.Dec.{eqb}
 use borrow.Author.Tests.{eq-eqb, ne_eqb}
-use Rattle.attempts.specs.View.{attempt_of, Ready}
-use Rattle.attempts.specs.declared.Attempt.{Attempt as AttemptStruct}
-use Rattle.attempts.proofs.FromRun.{ready_zero, settled_by_lem}
+use Rattle.refusal.specs.declared.Refusal.{Refusal}
+use Rattle.attempts.specs.View.{ended_as}
+use Rattle.attempts.specs.declared.Ended.{Ended as EndedStruct}
+use Rattle.attempts.proofs.FromRun.{settled_by_lem}
 use Rattle.attempts.proofs.settle.Goals as goal
 
 pub returns-then-wire_check-t : goal.returns-then-wire_check-t
@@ -15,11 +17,18 @@ returns-then-wire_check-t c =
     let run = c.args.run.now in
     let start = c.args.start in
     let t = c.args.t in
-    let told = sym (ap (λ (k : ℕ). eqb k t.value) c.wire_check.ensures) ∙ eq-eqb _ _ c.if-wire_check-t.true in record { start_value = ap (λ (a : AttemptStruct). attempt_of a run start) c.attempt_ended.ensures ∙ sym (settled_by_lem c.args.tables.now run start t c.requires c.args.next true told); next_value = ap (λ (a : AttemptStruct). a.next) c.attempt_ended.ensures; ready = λ command ready. subst (Ready command run start) (sym (ap (λ (a : AttemptStruct). a.len) c.attempt_ended.ensures)) ready }
+    let told = sym (ap (λ (k : ℕ). eqb k t.value) c.wire_check.ensures) ∙ eq-eqb _ _ c.if-wire_check-t.true in
+    record { start_value = λ next. sym (settled_by_lem c.args.tables.now run start t c.requires next true told); length_value = λ ended is. cc }
 
 pub returns : goal.returns
 returns c =
     let run = c.args.run.now in
     let start = c.args.start in
     let t = c.args.t in
-    let told = sym (ap (λ (k : ℕ). eqb k t.value) c.wire_check.ensures) ∙ ne_eqb _ _ c.if-wire_check-t.false in record { start_value = ap (λ (a : AttemptStruct). attempt_of a run start) c.attempt_failed.ensures ∙ sym (settled_by_lem c.args.tables.now run start t c.requires c.args.next false told); next_value = ap (λ (a : AttemptStruct). a.next) c.attempt_failed.ensures; ready = λ command _. ready_zero command _ _ _ (ap (λ (a : AttemptStruct). a.len) c.attempt_failed.ensures) }
+    let told = sym (ap (λ (k : ℕ). eqb k t.value) c.wire_check.ensures) ∙ ne_eqb _ _ c.if-wire_check-t.false in
+    record {
+      start_value = λ next.
+          ap (λ (x : Result EndedStruct Refusal). ended_as x next run start) c.refused.ensures
+          ∙ sym (settled_by_lem c.args.tables.now run start t c.requires next false told);
+      length_value = λ ended is. cc;
+    }

@@ -1,12 +1,7 @@
 -- `captures::through_syn` meets its contract. The loop's invariant: as many bytes as were passed stand before those that are left through
 -- the first SYN. Assumes nothing.
-use Prim.Native.Nat.{◌-◌, ◌≤◌}
-use lib.ListN.{length}
 use Rattle.captures.proofs.Through.{Sought}
 use Rattle.captures.proofs.through_syn.Given as goal
 
 abbrev pub invariant-loop-at : goal.invariant-loop-at
-invariant-loop-at l = (l.at ≤ length l.run) × Sought l.run l.at
-
-abbrev pub decreases-loop-at : goal.decreases-loop-at
-decreases-loop-at l = length l.run - l.at
+invariant-loop-at l = Sought l.run l.at

@@ -1,5 +1,6 @@
 -- `closing::accept` meets its contract: what is kept is put at the buffers' starts.
 -- Assumes nothing.
+use Rattle.std.specs.Prelude.{Ok}
 use mathlib.Core.Path.{◌≡◌, sym, ap}
 use Prim.Native.Nat.{◌+◌, ◌-◌, min}
 use native.Mathlib.Omega.{arith}
@@ -7,7 +8,7 @@ use lib.ListN.{length, drop}
 use lib.Seq.{length-take-le}
 use Rattle.addresses.specs.declared.ExchangeKind.{ExchangeKind}
 use Rattle.telegram.specs.Telegram.{command_room, reply_room}
-use Rattle.exchange.specs.declared.judge.Judged.TheVariants.{Accepted}
+use Rattle.exchange.specs.View.{accepted_as}
 use Rattle.listening.specs.Listening.{first_place, second_place, kept_room}
 use Rattle.closing.proofs.Closing.{rooms_had, put_kept}
 use borrow.Author.Rules.{rules}
@@ -42,7 +43,7 @@ returns c =
     let is₁ : first_place + n₁ - first_place ≡ min s.reply_1_length reply_room = omega (arith, c.smaller-first.ensures) in
     let is₂ : second_place + n₂ - second_place ≡ min s.reply_2_length reply_room = omega (arith, c.smaller-second.ensures) in
     record {
-      result = ap (λ (k : ExchangeKind). Accepted k s.command_attempts s.reply_attempts s.start) c.kind.ensures;
+      result = ap (λ (k : ExchangeKind). Ok (accepted_as k s.command_attempts s.reply_attempts s.start)) c.kind.ensures;
       command_buffer = put_kept s.kept command _ s.command_length command_room c.smaller-end.result c.smaller-end.ensures had.0 c.put.ensures;
       first_buffer = put_kept (drop first_place s.kept) first _ s.reply_1_length reply_room (first_place + n₁ - first_place) is₁ had.1 c.put-2.ensures;
       second_buffer = put_kept (drop second_place s.kept) second _ s.reply_2_length reply_room (second_place + n₂ - second_place) is₂ had.2 c.put-3.ensures;

@@ -1,14 +1,13 @@
 -- `closing::close` meets its contract: the buffers' lengths first, and then by what the state holds.
 -- Assumes nothing.
+use Rattle.std.specs.Prelude.{Err}
 use mathlib.Core.Path.{◌≡◌, sym, ap, ◌∙◌}
 use mathlib.Core.Bool.{true, false}
 use Prim.Native.Nat.{ℕ}
 use native.Mathlib.Omega.{arith}
 use lib.ListN.{length}
 use Rattle.refusal.specs.Number.{output_short, run_ended, at_place}
-use Rattle.exchange.specs.declared.judge.Judged.TheVariants.{Refused}
 use Rattle.exchange.specs.Exchange.{rooms}
-use Rattle.closing.specs.declared.Closed.{Closed}
 use Rattle.listening.specs.Listening.{hand_room, heard, answers, closing}
 use Rattle.closing.proofs.Closing.{judges_refused, judges_same, heard_is, answer_ends, answer_refuses, answer_accepts, closed_before, closed_now, closing_is, closing_state_is}
 use borrow.Author.Rules.{rules}
@@ -26,7 +25,7 @@ returns-then-not-have_room c =
     let first = c.args.reply_1.now in
     let second = c.args.reply_2.now in
     let short : rooms (length command) (length first) (length second) ≡ false = sym c.have_room.ensures ∙ c.if-not-have_room.true in
-    record { judges = judges_refused (closing s (length command) (length first) (length second)) (at_place output_short 0) _ command first second (closing_is s (length command) (length first) (length second) false short) (ap (λ (x : Closed). x.answer) c.too_short.ensures); state_value = ap (λ (x : Closed). x.state) c.too_short.ensures ∙ sym (closing_state_is s (length command) (length first) (length second) false short) }
+    record { judges = judges_refused (closing s (length command) (length first) (length second)) (at_place output_short 0) _ command first second (closing_is s (length command) (length first) (length second) false short) c.refused-answer.ensures; state_value = sym (closing_state_is s (length command) (length first) (length second) false short) }
 
 pub returns-then-state-lt-NOTHING_DUE : goal.returns-then-state-lt-NOTHING_DUE
 returns-then-state-lt-NOTHING_DUE c =
@@ -36,7 +35,7 @@ returns-then-state-lt-NOTHING_DUE c =
     let second = c.args.reply_2.now in
     let room : rooms (length command) (length first) (length second) ≡ true = sym c.have_room.ensures ∙ c.if-not-have_room.false in
     let end = heard_is s (raw_size (goal.at.returns-then-state-lt-NOTHING_DUE c).Start) c.heard-end.result c.heard-end.ensures in
-    record { judges = judges_refused (closing s (length command) (length first) (length second)) (at_place run_ended (heard s)) _ command first second (closing_is s (length command) (length first) (length second) true room ∙ answer_ends s c.if-state-lt-NOTHING_DUE.true) (c.refused.ensures ∙ ap (λ (k : ℕ). Refused (at_place run_ended k)) end); state_value = c.ended.ensures ∙ ap (λ (k : ℕ). answers s k run_ended k) end ∙ closed_now s c.if-state-lt-NOTHING_DUE.true ∙ sym (closing_state_is s (length command) (length first) (length second) true room) }
+    record { judges = judges_refused (closing s (length command) (length first) (length second)) (at_place run_ended (heard s)) _ command first second (closing_is s (length command) (length first) (length second) true room ∙ answer_ends s c.if-state-lt-NOTHING_DUE.true) (c.refused.ensures ∙ ap (λ (k : ℕ). Err (at_place run_ended k)) end); state_value = c.ended.ensures ∙ ap (λ (k : ℕ). answers s k run_ended k) end ∙ closed_now s c.if-state-lt-NOTHING_DUE.true ∙ sym (closing_state_is s (length command) (length first) (length second) true room) }
 
 pub returns-then-state-ne0 : goal.returns-then-state-ne0
 returns-then-state-ne0 c =

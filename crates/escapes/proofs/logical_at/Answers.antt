@@ -12,7 +12,7 @@ use Rattle.escapes.proofs.logical_at.Goals as goal
 
 pub returns-then-end-at : goal.returns-then-end-at
 unfolding logical_at
-returns-then-end-at c = simp (le-ltb _ _ c.if-end-at.true) c.no_byte.ensures
+returns-then-end-at c = simp (le-ltb _ _ c.if-end-at.true) c.refused.ensures
 
 pub returns-in-169 : goal.returns-in-169
 unfolding logical_at
@@ -20,7 +20,7 @@ returns-in-169 c = simp (lt-ltb _ _ c.if-end-at.false, c.in-169.is) c.escape_at.
 
 pub returns-in-170 : goal.returns-in-170
 unfolding logical_at
-returns-in-170 c = simp (lt-ltb _ _ c.if-end-at.false, c.in-170.is) c.no_byte-in-170.ensures
+returns-in-170 c = simp (lt-ltb _ _ c.if-end-at.false, c.in-170.is) c.refused-in-170.ensures
 
 pub returns-in_default : goal.returns-in_default
 unfolding logical_at

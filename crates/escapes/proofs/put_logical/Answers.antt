@@ -4,19 +4,13 @@ use Prim.Native.Nat.{ℕ}
 use native.Mathlib.Nat.{sub-zero}
 use native.Mathlib.Omega.{arith}
 use Rattle.escapes.specs.Logical.{logicals_at}
-use Rattle.escapes.proofs.LogicalBytes.{putting_length, put_full, put_over, put_next, no_logical, none_due}
+use Rattle.escapes.proofs.LogicalBytes.{putting_length, put_over, put_done, put_next, no_logical}
 use Rattle.escapes.proofs.put_logical.Goals as goal
 
 pub loop-i-init : goal.loop-i-init
 loop-i-init c =
     let args = c.args in
     record { within = omega arith; held = omega arith; rest = ap (λ (m : ℕ). logicals_at args.run.now m args.at) (sym (sub-zero args.n)); output = refl }
-
-pub shape_of-out-then-out-i : goal.shape_of-out-then-out-i
-shape_of-out-then-out-i c = putting_length _ _ _ _ _ _ _ c.loop-i.invariant
-
-pub returns-then-out-i : goal.returns-then-out-i
-returns-then-out-i c = put_full _ _ _ _ _ _ _ c.loop-i.invariant (omega (arith, c.if-out-i.true, putting_length _ _ _ _ _ _ _ c.loop-i.invariant))
 
 pub shape_of-out-in_default : goal.shape_of-out-in_default
 shape_of-out-in_default c = putting_length _ _ _ _ _ _ _ c.loop-i.invariant
@@ -27,22 +21,16 @@ returns-in_default c =
     (no_logical _ _ _ (omega (arith, c.loop-i-test.true)) c.in_default.field-0 (sym c.logical_at.ensures ∙ c.in_default.is))
 
 pub bounds-out-i : goal.bounds-out-i
-bounds-out-i c = omega (arith, c.if-out-i.false)
-
-pub overflow_add-i : goal.overflow_add-i
-overflow_add-i c = omega arith
-
-pub loop-i-smaller : goal.loop-i-smaller
-loop-i-smaller c = omega arith
+bounds-out-i c = omega (arith, c.min-i-end.ensures, putting_length _ _ _ _ _ _ _ c.loop-i.invariant)
 
 pub loop-i-preserved : goal.loop-i-preserved
 loop-i-preserved c =
-    put_next _ _ _ _ _ _ _ c.loop-i.invariant c.loop-i-test.true
-    (omega (arith, c.if-out-i.false, putting_length _ _ _ _ _ _ _ c.loop-i.invariant)) c.in-Byte.value c.in-Byte.behind
-    (sym c.logical_at.ensures ∙ c.in-Byte.is)
+    put_next _ _ _ _ _ _ _ c.loop-i.invariant (omega (arith, c.min-i-end.ensures))
+    (omega (arith, c.min-i-end.ensures, putting_length _ _ _ _ _ _ _ c.loop-i.invariant)) c.in-Ok.value c.in-Ok.behind
+    (sym c.logical_at.ensures ∙ c.in-Ok.is)
 
 pub shape_of-out : goal.shape_of-out
 shape_of-out c = putting_length _ _ _ _ _ _ _ c.loop-i.invariant
 
 pub returns : goal.returns
-returns c = put_over _ _ _ _ _ _ _ c.loop-i.invariant (none_due _ _ _ (omega (arith, c.loop-i-test.false)))
+returns c = put_done _ _ _ _ _ _ _ c.loop-i.invariant (omega (arith, c.min-i-end.ensures))

@@ -1,5 +1,6 @@
 -- `escapes::undo` meets its contract: the length is worked out first, and the output is written only where it fits.
 -- Assumes nothing.
+use Rattle.std.specs.Prelude.{Ok}
 use mathlib.Core.Path.{◌≡◌, sym, ap, ◌∙◌}
 use mathlib.Core.List.{List}
 use Prim.Native.Nat.{ℕ}
@@ -8,31 +9,26 @@ use lib.ListN.{length, take}
 use Rattle.lists.specs.Starting.{starting}
 use Rattle.lists.proofs.Filling.{put_whole}
 use Rattle.refusal.specs.Output.{content, written}
-use Rattle.refusal.specs.declared.Written.TheVariants.{Length}
-use Rattle.refusal.proofs.Writer.{accepted, accepted_length, wrote_refused, wrote_short, wrote_all}
+use Rattle.refusal.proofs.Writer.{accepted, accepted_length, wrote_short, wrote_all}
 use Rattle.escapes.specs.Logical.{logicals_at}
 use Rattle.escapes.specs.Undo.{undone}
 use Rattle.escapes.proofs.LogicalBytes.{undone_logicals}
 use Rattle.escapes.proofs.undo.Goals as goal
 
-pub returns-in_default : goal.returns-in_default
-returns-in_default c =
-    wrote_refused (undone c.args.raw.now) (length c.args.out.now) c.args.out.now c.undone_length-counted.result c.in_default.field-0 c.undone_length-counted.ensures c.in_default.is
-
 pub returns-then-out-n : goal.returns-then-out-n
 returns-then-out-n c =
     let out = undone c.args.raw.now in
     let old = c.args.out.now in
-    let n = c.in-Length.n in
-    let e : written out ≡ Length n = sym c.undone_length-counted.ensures ∙ c.in-Length.is in
-    wrote_short out (length old) old n e c.too_short.result c.if-out-n.true c.too_short.ensures
+    let n = c.in_ok-n.n in
+    let e : written out ≡ Ok n = sym c.in_ok-n.ensures in
+    wrote_short out (length old) old n e c.refused.result c.if-out-n.true c.refused.ensures
 
 pub returns : goal.returns
 returns c =
     let out = undone c.args.raw.now in
     let old = c.args.out.now in
-    let n = c.in-Length.n in
-    let e : written out ≡ Length n = sym c.undone_length-counted.ensures ∙ c.in-Length.is in
+    let n = c.in_ok-n.n in
+    let e : written out ≡ Ok n = sym c.in_ok-n.ensures in
     let all = content out in
     let size : length all ≡ n = accepted_length out n e in
     let whole : logicals_at c.args.raw.now n 0 ≡ all =

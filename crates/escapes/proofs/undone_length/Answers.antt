@@ -1,11 +1,11 @@
 -- `escapes::undone_length` meets its contract. Assumes nothing.
+use Rattle.refusal.proofs.Exit.{exits}
+use Rattle.std.specs.Prelude.{Ok, Err}
 use mathlib.Core.Path.{◌≡◌, sym, ap, ◌∙◌}
 use Prim.Native.Nat.{ℕ, ◌+◌, ◌-◌}
 use native.Mathlib.Nat.{sub-zero, add-zero}
 use native.Mathlib.Omega.{arith}
 use lib.ListN.{length}
-use Rattle.refusal.specs.declared.Written.TheVariants.{Length}
-use Rattle.escapes.specs.declared.Logical.TheVariants.{Byte}
 use Rattle.escapes.specs.Logical.{logical_at}
 use Rattle.escapes.specs.Undo.{undone_from, undone}
 use Rattle.escapes.proofs.LogicalBytes.{stands, none_left, turn_byte, turn_refused, counted, counted_none, counted_one}
@@ -25,9 +25,9 @@ loop-at-smaller c =
     let raw = c.args.raw.now in
     let at = c.loop-at.at in
     let n = c.loop-at.n in
-    let b = c.in-Byte.field-0 in
-    let next = c.in-Byte.next in
-    let e : logical_at raw at ≡ Byte b next = sym c.logical_at-byte.ensures ∙ c.in-Byte.is in
+    let b = c.in_ok-next.field-0-0 in
+    let next = c.in_ok-next.next in
+    let e : logical_at raw at ≡ Ok (b, next) = sym c.in_ok-next.ensures in
     let ahead = stands raw at b next e in
     omega arith
 
@@ -36,9 +36,9 @@ loop-at-preserved c =
     let raw = c.args.raw.now in
     let at = c.loop-at.at in
     let n = c.loop-at.n in
-    let b = c.in-Byte.field-0 in
-    let next = c.in-Byte.next in
-    let e : logical_at raw at ≡ Byte b next = sym c.logical_at-byte.ensures ∙ c.in-Byte.is in
+    let b = c.in_ok-next.field-0-0 in
+    let next = c.in_ok-next.next in
+    let e : logical_at raw at ≡ Ok (b, next) = sym c.in_ok-next.ensures in
     let ahead = stands raw at b next e in (
       omega arith,
       ahead.1,
@@ -46,17 +46,18 @@ loop-at-preserved c =
           ∙ ap (counted n) (sym (turn_byte raw n at c.loop-at.invariant.0 c.loop-at-test.true b next e)) ∙ c.loop-at.invariant.2,
     )
 
-pub returns-in-Refused : goal.returns-in-Refused
-returns-in-Refused c =
+pub returns-in_err-next : goal.returns-in_err-next
+returns-in_err-next c =
     let raw = c.args.raw.now in
     let at = c.loop-at.at in
     let n = c.loop-at.n in
-    let e = sym c.logical_at-byte.ensures ∙ c.in-Refused.is in
-    ap (counted n) (sym (turn_refused raw n at c.loop-at.invariant.0 c.loop-at-test.true _ e)) ∙ c.loop-at.invariant.2
+    let e : logical_at raw at ≡ Err c.in_err-next.field-0.0 = sym c.in_err-next.ensures in
+    exits c.from_residual.result c.in_err-next.field-0.0 c.from_residual.ensures.1
+    ∙ (ap (counted n) (sym (turn_refused raw n at c.loop-at.invariant.0 c.loop-at-test.true _ e)) ∙ c.loop-at.invariant.2)
 
 pub returns : goal.returns
 returns c =
     let raw = c.args.raw.now in
     let at = c.loop-at.at in
     let n = c.loop-at.n in
-    ap Length (sym (add-zero n)) ∙ ap (counted n) (sym (none_left raw n at c.loop-at-test.false (length raw - n))) ∙ c.loop-at.invariant.2
+    ap Ok (sym (add-zero n)) ∙ ap (counted n) (sym (none_left raw n at c.loop-at-test.false (length raw - n))) ∙ c.loop-at.invariant.2

@@ -7,23 +7,23 @@ use Rattle.events.proofs.event_data.Goals as goal
 pub slice_bounds-result-count : goal.slice_bounds-result-count
 slice_bounds-result-count c =
     let args = c.args in
-    let found = sym c.event_at-event.ensures ∙ c.in-Whole.is in
+    let found = sym c.event_at.ensures ∙ c.in-Some.is in
     omega (arith, found_next args.input.now args.at found, found_within args.input.now args.at found)
 
 pub slice_bounds-result-start : goal.slice_bounds-result-start
 slice_bounds-result-start c =
     let args = c.args in
-    let found = sym c.event_at-event.ensures ∙ c.in-Whole.is in
+    let found = sym c.event_at.ensures ∙ c.in-Some.is in
     omega (arith, found_next args.input.now args.at found, found_within args.input.now args.at found)
 
 pub slice_bounds-result-end : goal.slice_bounds-result-end
 slice_bounds-result-end c =
     let args = c.args in
-    let found = sym c.event_at-event.ensures ∙ c.in-Whole.is in
+    let found = sym c.event_at.ensures ∙ c.in-Some.is in
     omega (arith, found_next args.input.now args.at found, found_within args.input.now args.at found)
 
-pub returns-in-Whole : goal.returns-in-Whole
-returns-in-Whole c = let args = c.args in shows_data args.input.now args.at args.input.ref_ptr (sym c.event_at-event.ensures ∙ c.in-Whole.is)
+pub returns-in-Some : goal.returns-in-Some
+returns-in-Some c = let args = c.args in shows_data args.input.now args.at args.input.ref_ptr (sym c.event_at.ensures ∙ c.in-Some.is)
 
-pub returns-in-Broken : goal.returns-in-Broken
-returns-in-Broken c = let args = c.args in shows_nothing args.input.now args.at args.input.ref_ptr (sym c.event_at-event.ensures ∙ c.in-Broken.is)
+pub returns-in-None : goal.returns-in-None
+returns-in-None c = let args = c.args in shows_nothing args.input.now args.at args.input.ref_ptr (sym c.event_at.ensures ∙ c.in-None.is)

@@ -1,11 +1,6 @@
 -- `table::serials_differ` meets its contract: the slots tell each serial from those before it. Assumes nothing.
-use Prim.Native.Nat.{◌-◌}
-use lib.ListN.{length}
 use Rattle.table.proofs.Slots.{Slots}
 use Rattle.table.proofs.serials_differ.Given as goal
 
 abbrev pub invariant-loop-i : goal.invariant-loop-i
 invariant-loop-i l = Slots l.serials l.taken l.i
-
-abbrev pub decreases-loop-i : goal.decreases-loop-i
-decreases-loop-i l = length l.serials - l.i

@@ -1,13 +1,8 @@
--- `table::serials_right` meets its contract: a walk that tests each serial. Assumes nothing.
-use mathlib.Core.Bool.{true}
-use Prim.Native.Nat.{◌-◌}
-use lib.ListN.{length}
-use Rattle.lists.proofs.Walk.{Walked, all_so_far}
+-- `table::serials_right` meets its contract. The loop's invariant: the serials so far are right. Assumes nothing.
+use Rattle.std.proofs.Common.{◌≡◌, take}
+use Rattle.std.specs.List.{list_all}
 use Rattle.table.specs.Table.{serial_right}
 use Rattle.table.proofs.serials_right.Given as goal
 
-abbrev pub invariant-loop-i : goal.invariant-loop-i
-invariant-loop-i l = Walked (all_so_far serial_right) true l.serials l.i l.right
-
-abbrev pub decreases-loop-i : goal.decreases-loop-i
-decreases-loop-i l = length l.serials - l.i
+abbrev pub invariant-loop-serial : goal.invariant-loop-serial
+invariant-loop-serial l = l.right ≡ list_all serial_right (take l.serial-index l.serials)

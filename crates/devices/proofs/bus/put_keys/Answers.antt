@@ -17,26 +17,8 @@ use Rattle.devices.proofs.bus.put_keys.Goals as goal
 pub loop-i-init : goal.loop-i-init
 loop-i-init c = (omega arith, refl, refl)
 
-pub bounds-marks-i : goal.bounds-marks-i
-bounds-marks-i c = omega (arith, c.requires.0)
-
-pub bounds-serials-i : goal.bounds-serials-i
-bounds-serials-i c = omega arith
-
 pub key-requires : goal.key-requires
 key-requires c = ltb-true (get_or c.args.serials.now c.loop-i.i 0) serial_limit (all_at serial_right c.args.serials.now c.requires.2 c.loop-i.i (omega arith))
-
-pub offset_bounds-keys-i : goal.offset_bounds-keys-i
-offset_bounds-keys-i c = omega arith
-
-pub bounds-keys-i : goal.bounds-keys-i
-bounds-keys-i c = omega arith
-
-pub overflow_add-i : goal.overflow_add-i
-overflow_add-i c = omega arith
-
-pub loop-i-smaller : goal.loop-i-smaller
-loop-i-smaller c = omega arith
 
 pub loop-i-preserved : goal.loop-i-preserved
 loop-i-preserved c =
@@ -48,9 +30,6 @@ loop-i-preserved c =
           ∙ ap (set (starting (take c.loop-i.i (keys_of serials marks)) c.args.keys.now) c.loop-i.i) (c.key.ensures ∙ sym (keys_at serials marks c.requires.0 c.loop-i.i (omega arith)))
           ∙ starting_more (keys_of serials marks) c.args.keys.now c.loop-i.i (omega (arith, keys_length serials marks c.requires.0)) (omega (arith, keys_length serials marks c.requires.0)),
     )
-
-pub shape_of-keys : goal.shape_of-keys
-shape_of-keys c = c.loop-i.invariant.1
 
 pub returns : goal.returns
 returns c =

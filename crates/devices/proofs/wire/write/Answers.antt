@@ -1,9 +1,9 @@
 -- `devices::wire::write` meets its contract, answer by answer. Assumes nothing.
+use Rattle.std.specs.Prelude.{Some}
 use mathlib.Core.Path.{◌≡◌, sym, ap, ◌∙◌, subst}
 use Rattle.lists.specs.Starting.{starting}
 use Rattle.devices.specs.Calls.{answer_bytes, response_to}
 use Rattle.turns.specs.Inner.{Writable}
-use Rattle.devices.specs.declared.Response.TheVariants.{Answered}
 use Rattle.turns.specs.declared.Answer.{Answer}
 use Rattle.turns.specs.declared.Answer.TheVariants.{Silence, Found, End}
 use Rattle.devices.proofs.AnswerBytes.{silence_bytes}
@@ -24,12 +24,12 @@ returns-in-Silence c = let e : c.args.heard ≡ Silence = c.in-Silence.is in
 
 pub returns-in-Found : goal.returns-in-Found
 returns-in-Found c = let e : c.args.heard ≡ Found c.in-Found.dominant c.in-Found.serial c.in-Found.address = c.in-Found.is in (
-  ap Answered c.write_found.ensures.0 ∙ ap response_to (sym e),
+  ap Some c.write_found.ensures.0 ∙ ap response_to (sym e),
   c.write_found.ensures.1 ∙ ap (λ (a : Answer). starting (answer_bytes a) c.args.answer.now) (sym e),
 )
 
 pub returns-in-End : goal.returns-in-End
 returns-in-End c = let e : c.args.heard ≡ End c.in-End.dominant = c.in-End.is in (
-  ap Answered c.write_end.ensures.0 ∙ ap response_to (sym e),
+  ap Some c.write_end.ensures.0 ∙ ap response_to (sym e),
   c.write_end.ensures.1 ∙ ap (λ (a : Answer). starting (answer_bytes a) c.args.answer.now) (sym e),
 )

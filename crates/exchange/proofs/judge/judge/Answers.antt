@@ -13,8 +13,8 @@ returns-then-not-have_room c =
     let command = c.args.command.now in
     let first = c.args.reply_1.now in
     let second = c.args.reply_2.now in
-    refuses (judged run (length command) (length first) (length second)) command first second (at_place output_short 0) c.too_short.result
-    (judged_short (length command) (length first) (length second) run (sym c.have_room.ensures ∙ c.if-not-have_room.true)) c.too_short.ensures
+    refuses (judged run (length command) (length first) (length second)) command first second (at_place output_short 0) c.refused.result
+    (judged_short (length command) (length first) (length second) run (sym c.have_room.ensures ∙ c.if-not-have_room.true)) c.refused.ensures
 
 pub slice_bounds-read-end : goal.slice_bounds-read-end
 slice_bounds-read-end c = read_length c.args.run.now c.read_of-n.result c.read_of-n.ensures

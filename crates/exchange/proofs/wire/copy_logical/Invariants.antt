@@ -3,7 +3,7 @@
 -- Assumes nothing.
 use mathlib.Core.Path.{◌≡◌}
 use mathlib.Core.List.{List}
-use Prim.Native.Nat.{ℕ, ◌-◌}
+use Prim.Native.Nat.{ℕ}
 use lib.ListN.{length}
 use Rattle.escapes.specs.Logical.{logicals_at}
 use Rattle.exchange.proofs.Copying.{Copying}
@@ -11,6 +11,3 @@ use Rattle.exchange.proofs.wire.copy_logical.Given as goal
 
 abbrev pub invariant-loop-i : goal.invariant-loop-i
 invariant-loop-i l = (length (logicals_at l.run l.n l.at) ≡ l.n) × ((rest : List ℕ) × Copying l.run (logicals_at l.run l.n l.at) rest l.initial.out l.out l.i l.next)
-
-abbrev pub decreases-loop-i : goal.decreases-loop-i
-decreases-loop-i l = l.n - l.i

@@ -1,8 +1,10 @@
 -- `feeding::attempt::copy_logical` meets its contract. Assumes nothing.
 use mathlib.Core.Path.{refl}
+use Prim.Native.Nat.{◌+◌}
 use native.Mathlib.Omega.{arith}
-use Rattle.exchange.proofs.Copying.{copying_length, copied, copy_within, copy_plain, copy_escape}
+use Rattle.exchange.proofs.Copying.{copying_length, copied, copy_within, copy_plain, copy_escape, copying_as}
 use Rattle.feeding.proofs.attempt.copy_logical.Goals as goal
+use Rattle.feeding.proofs.attempt.copy_logical.Goals.{then-byte, else-byte}
 
 pub loop-i-init : goal.loop-i-init
 loop-i-init c =
@@ -29,29 +31,19 @@ bounds-out-i c = omega (arith, copying_length _ _ _ _ _ _ _ c.loop-i.invariant.1
 pub overflow_add-next : goal.overflow_add-next
 overflow_add-next c = omega (arith, (copy_escape _ _ _ _ _ _ _ c.loop-i.invariant.1.1 (omega (arith, c.loop-i.invariant.0, c.loop-i-test.true)) c.if-byte.true).second_within)
 
-pub overflow_add-i : goal.overflow_add-i
-overflow_add-i c = omega arith
-
-pub loop-i-smaller-then-byte : goal.loop-i-smaller-then-byte
-loop-i-smaller-then-byte c = omega arith
-
-pub loop-i-preserved-then-byte : goal.loop-i-preserved-then-byte
-loop-i-preserved-then-byte c = (c.loop-i.invariant.0, (c.loop-i.invariant.1.0, (copy_escape _ _ _ _ _ _ _ c.loop-i.invariant.1.1 (omega (arith, c.loop-i.invariant.0, c.loop-i-test.true)) c.if-byte.true).then))
-
 pub bounds-out-i-else-byte : goal.bounds-out-i-else-byte
 bounds-out-i-else-byte c = omega (arith, copying_length _ _ _ _ _ _ _ c.loop-i.invariant.1.1, c.loop-i.invariant.1.1.room, c.loop-i.invariant.0, c.loop-i-test.true)
 
 pub overflow_add-next-else-byte : goal.overflow_add-next-else-byte
 overflow_add-next-else-byte c = omega (arith, copy_within _ _ _ _ _ _ _ c.loop-i.invariant.1.1 (omega (arith, c.loop-i.invariant.0, c.loop-i-test.true)))
 
-pub overflow_add-i-else-byte : goal.overflow_add-i-else-byte
-overflow_add-i-else-byte c = omega arith
-
-pub loop-i-smaller : goal.loop-i-smaller
-loop-i-smaller c = omega arith
-
 pub loop-i-preserved : goal.loop-i-preserved
-loop-i-preserved c = (c.loop-i.invariant.0, (c.loop-i.invariant.1.0, copy_plain _ _ _ _ _ _ _ c.loop-i.invariant.1.1 (omega (arith, c.loop-i.invariant.0, c.loop-i-test.true)) c.if-byte.false))
+loop-i-preserved c =
+    let due = c.loop-i.invariant.1.1 in
+    elim c.if-byte.branch [
+      | then-byte w ↦ (c.loop-i.invariant.0, (c.loop-i.invariant.1.0, copying_as _ _ _ _ (c.loop-i.i + 1) w.out-is w.next-is (copy_escape _ _ _ _ _ _ _ due (omega (arith, c.loop-i.invariant.0, c.loop-i-test.true)) w.if-byte.true).then))
+      | else-byte w ↦ (c.loop-i.invariant.0, (c.loop-i.invariant.1.0, copying_as _ _ _ _ (c.loop-i.i + 1) w.out-is w.next-is (copy_plain _ _ _ _ _ _ _ due (omega (arith, c.loop-i.invariant.0, c.loop-i-test.true)) w.if-byte.false)))
+    ]
 
 pub shape_of-out : goal.shape_of-out
 shape_of-out c = copying_length _ _ _ _ _ _ _ c.loop-i.invariant.1.1

@@ -15,11 +15,6 @@ use Rattle.polls.specs.Inner.{packet_body}
 use Rattle.polls.proofs.PacketBody.{frame_length_lem, packet_length, closed_put}
 use Rattle.polls.proofs.answer.send.Goals as goal
 
-pub slice_bounds-write_closed-end : goal.slice_bounds-write_closed-end
-slice_bounds-write_closed-end c =
-    let r = c.put_body-end.result in
-    sym (ap length (ap (take r) c.put_body-end.ensures.1 ∙ start_of (packet_body c.args.sender c.args.flag c.args.count (queued_from c.args.events c.args.slots.now)) (replicate 102 0) r (sym c.put_body-end.ensures.0)) ∙ sym c.put_body-end.ensures.0)
-
 pub returns : goal.returns
 unfolding heard_bytes
 returns c =

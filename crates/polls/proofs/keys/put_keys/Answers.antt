@@ -17,41 +17,8 @@ use Rattle.polls.proofs.keys.put_keys.Goals as goal
 pub loop-i-init : goal.loop-i-init
 loop-i-init c = (omega arith, refl, refl)
 
-pub overflow_mul-start : goal.overflow_mul-start
-overflow_mul-start c = omega (arith, c.requires.1)
-
-pub overflow_add-end : goal.overflow_add-end
-overflow_add-end c = omega (arith, c.requires.1)
-
-pub bounds-ids-i : goal.bounds-ids-i
-bounds-ids-i c = omega arith
-
-pub bounds-counts-i : goal.bounds-counts-i
-bounds-counts-i c = omega (arith, c.requires.0.counts_long)
-
-pub slice_bounds-key-count : goal.slice_bounds-key-count
-slice_bounds-key-count c = omega arith
-
-pub slice_bounds-key-start : goal.slice_bounds-key-start
-slice_bounds-key-start c = omega arith
-
-pub slice_bounds-key-end : goal.slice_bounds-key-end
-slice_bounds-key-end c = omega (arith, c.requires.0.slots_long)
-
 pub key-requires : goal.key-requires
 key-requires c = subst (λ (l : List ℕ). RightSlots (get_or c.args.counts.now c.loop-i.i 0) l) (sym (part_is c.args.slots.now c.loop-i.i)) (c.requires.0.each c.loop-i.i (omega arith))
-
-pub offset_bounds-keys-i : goal.offset_bounds-keys-i
-offset_bounds-keys-i c = omega arith
-
-pub bounds-keys-i : goal.bounds-keys-i
-bounds-keys-i c = omega arith
-
-pub overflow_add-i : goal.overflow_add-i
-overflow_add-i c = omega arith
-
-pub loop-i-smaller : goal.loop-i-smaller
-loop-i-smaller c = omega arith
 
 pub loop-i-preserved : goal.loop-i-preserved
 loop-i-preserved c =
@@ -68,9 +35,6 @@ loop-i-preserved c =
           ∙ ap (set (starting (take i all) a.keys.now) i) due
           ∙ starting_more all a.keys.now i (omega arith) (omega (arith, c.requires.2)),
     )
-
-pub shape_of-keys : goal.shape_of-keys
-shape_of-keys c = c.loop-i.invariant.1
 
 pub returns : goal.returns
 returns c =

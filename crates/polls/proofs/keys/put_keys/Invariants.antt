@@ -10,6 +10,3 @@ use Rattle.polls.proofs.keys.put_keys.Given as goal
 
 abbrev pub invariant-loop-i : goal.invariant-loop-i
 invariant-loop-i l = (l.i ≤ length l.ids) × (length l.keys ≡ length l.initial.keys) × (l.keys ≡ starting (take l.i (poll_keys l.request l.ids (queues_of l.counts l.slots))) l.initial.keys)
-
-abbrev pub decreases-loop-i : goal.decreases-loop-i
-decreases-loop-i l = length l.ids - l.i
