@@ -12,7 +12,7 @@ const EXCHANGES: [usize; 2] = [exchanges::LONG, exchanges::SHORT];
 /// Lengths of captures.
 const CAPTURES: [usize; 2] = [day::PART, day::DAY];
 
-/// Lengths of frames, those around the first that goes by the rows among them.
+/// Lengths of frames. The first that goes by the rows is 64; of these 85.
 const FRAMES: [usize; 20] = [
     5, 7, 9, 13, 17, 21, 25, 29, 33, 35, 36, 37, 45, 61, 85, 101, 133, 165, 205, 255,
 ];
