@@ -21,9 +21,6 @@ use Rattle.captures.specs.Capture.{through_syn, stretch_from, next_exchange}
 abbrev pub Sought : List ℕ → ℕ → Type 0
 Sought run at = through_syn run ≡ at + through_syn (drop at run)
 
-pub sought_none : (run : List ℕ) → Sought run 0
-sought_none run = omega arith
-
 through_here : (b : ℕ) (bs : List ℕ) → b ≡ syn → through_syn (b ∷ bs) ≡ 1
 unfolding through_syn
 through_here b bs e = ap (λ (t : Bool). pick t 1 (1 + through_syn bs)) (eq-eqb b syn e)
@@ -32,24 +29,20 @@ through_later : (b : ℕ) (bs : List ℕ) → (b ≡ syn → ⊥) → through_sy
 unfolding through_syn
 through_later b bs e = ap (λ (t : Bool). pick t 1 (1 + through_syn bs)) (ne_eqb b syn e)
 
-pub sought_here : (run : List ℕ) (at : ℕ) → at < length run → Sought run at → get_or run at 0 ≡ syn → at + 1 ≡ through_syn run
-sought_here run at near so_far e =
-    let here = ap through_syn (drop_next run at near) ∙ through_here (get_or run at 0) (drop (at + 1) run) e in
-    omega (arith, so_far, here)
-
-pub sought_on : (run : List ℕ) (at : ℕ) → at < length run → Sought run at → (get_or run at 0 ≡ syn → ⊥) → Sought run (at + 1)
-sought_on run at near so_far e =
-    let on = ap through_syn (drop_next run at near) ∙ through_later (get_or run at 0) (drop (at + 1) run) e in
-    omega (arith, so_far, on)
-
 none_through : through_syn [] ≡ 0
 unfolding through_syn
 none_through = refl
 
-pub sought_all : (run : List ℕ) (at : ℕ) → length run ≤ at → Sought run at → at ≡ through_syn run
-sought_all run at far so_far =
-    let rest = ap through_syn (drop_of_length-le run far) ∙ none_through in
-    omega (arith, so_far, rest)
+-- how many bytes there are through the first SYN from a position on; the first part only names that number, so that the check
+-- finds the others by it
+pub from_here : (run : List ℕ) (at : ℕ) → (through_syn (drop at run) ≡ through_syn (drop at run)) × (at < length run → get_or run at 0 ≡ syn → through_syn (drop at run) ≡ 1)
+    × (at < length run → (get_or run at 0 ≡ syn → ⊥) → through_syn (drop at run) ≡ 1 + through_syn (drop (at + 1) run)) × (length run ≤ at → through_syn (drop at run) ≡ 0)
+from_here run at = (
+  refl,
+  (λ near e. ap through_syn (drop_next run at near) ∙ through_here (get_or run at 0) (drop (at + 1) run) e),
+  (λ near e. ap through_syn (drop_next run at near) ∙ through_later (get_or run at 0) (drop (at + 1) run) e),
+  (λ far. ap through_syn (drop_of_length-le run far) ∙ none_through),
+)
 
 pub through_size : (run : List ℕ) → through_syn run ≤ length run
 through_size [] = omega (arith, none_through)

@@ -20,6 +20,7 @@ pub struct Stretch {
 }
 
 // How many bytes of a run there are through its first SYN; all of them where it has none.
+#[tactic(auto, using(crate::proofs::Through::from_here))]
 pub fn through_syn(run: &[u8]) -> usize
     ensures { result ≡ through_syn run.now }
 {

@@ -1,5 +1,5 @@
 -- `arbitration::first_with` meets its contract. Assumes nothing.
-use Rattle.std.proofs.Common.{◌≡◌, rules}
+use Rattle.std.proofs.Common.{◌≡◌, rules, arith}
 use Rattle.std.proofs.lemmas.Iterator.{YieldsList-from_slice}
 use Rattle.std.proofs.lemmas.Iterator.Search.{position_from_yields_List}
 use Rattle.std.specs.List.{position}
@@ -13,4 +13,4 @@ returns c =
     let test = starts c.args.windows c.args.prefix in
     let found : c.position.result ≡ position test keys = position_from_yields_List test _ _ _ c.position.ensures.ran (YieldsList-from_slice keys c.iter.ensures.rest) (λ x b q k. search rules) in
     let first = first_is test keys in
-    cc
+    grind (arith, found, first)
