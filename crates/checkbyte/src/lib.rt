@@ -111,13 +111,14 @@ pub fn wire_check(tables: &[u8; 512], raw: &[u8]) -> u8
 {
     let entries = &tables[..];
     let mut running: usize = 0x100;
-    let (pairs, last) = raw.as_chunks::<2>();
-    for pair in pairs {
-        let both = entries[pair[0] as usize] ^ pair[1];
+    let mut left = raw;
+    while let [first, second, rest @ ..] = left {
+        let both = entries[*first as usize] ^ *second;
         running = (entries[running] as usize) ^ (ABOVE + both as usize);
+        left = rest;
     }
     let register = (running - ABOVE) as u8;
-    match last {
+    match left {
         [byte] => entries[register as usize] ^ *byte,
         _ => register,
     }
